@@ -1,0 +1,14 @@
+//! The language of iterators: its tokens and its syntax tree, from text and back.
+//!
+//! Read [`Program`] first. A tree keeps the byte offsets of the text that it came from, so that later
+//! faults can name a place. `docs/language.md` has the grammar and the meaning.
+#![tactic(auto)]
+
+mod token;
+mod tree;
+
+pub use token::{Keyword, Symbol, Token, TokenKind};
+pub use tree::{
+    Arg, Args, BinaryOp, Block, Expr, FieldDecl, FieldUse, Fields, Iter, Iters, Place, Program,
+    RecordDecl, Records, Stmt, Stmts, Width, Word,
+};

@@ -1,0 +1,4 @@
+pub mod Status
+pub mod Pad
+pub mod formers
+pub mod PadLaws
