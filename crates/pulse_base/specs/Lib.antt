@@ -1,4 +1,9 @@
-pub mod Status
+pub mod InMemory
+pub mod Link
+pub mod Outside
 pub mod Pad
-pub mod formers
 pub mod PadLaws
+pub mod Reading
+pub mod Spawner
+pub mod Status
+pub mod formers

@@ -1,15 +1,35 @@
-//! What every crate of PULSE stands on: lists, pads, and the names of answers, faults and statuses.
+//! What every crate of PULSE stands on: lists, pads, the names of answers, faults and statuses, and the
+//! traits of the outside with their ends in memory and over the standard streams.
 //!
-//! Read [`Listed`] first: each list in a public type is one of these, and contracts see it as a list.
-//! Nothing here knows of programs, nodes or frames.
+//! Read [`Listed`] first: each list in a public type is one of these, and contracts see it as a list. Then
+//! [`Source`] and [`Sink`]: they count their faults, and may tell what they hold. Nothing here knows of
+//! programs, nodes or frames.
 #![tactic(auto)]
 
 mod answer;
+mod link;
 mod listed;
+mod mem_sink;
+mod mem_source;
 mod pad_bytes;
+mod reading;
+mod sink;
+mod source;
+mod spawner;
 mod status;
+mod streams;
+#[cfg(test)]
+mod tests;
 
 pub use answer::{Answer, FaultKind};
+pub use link::{Got, Link};
 pub use listed::{Answers, Bytes, Listed, Memory, Numbers};
+pub use mem_sink::MemSink;
+pub use mem_source::MemSource;
 pub use pad_bytes::PadBytes;
+pub use reading::{ReadAll, read_all};
+pub use sink::{Sink, write_all};
+pub use source::{Failed, Source};
+pub use spawner::{Kid, Spawner};
 pub use status::Status;
+pub use streams::{ReaderSource, WriterSink};
