@@ -1,0 +1,13 @@
+pub mod Prefixes
+pub mod Symbols
+pub mod Numbers
+pub mod Words
+pub mod Reading
+pub mod Gaps
+pub mod OneReading
+pub mod Steps
+pub mod Exact
+pub mod ExactMany
+pub mod ExactChoice
+pub mod ExactForm
+pub mod Stops

@@ -1,1 +1,9 @@
 pub mod Tree
+pub mod Bytes
+pub mod Spelling
+pub mod Deep
+pub mod Reading
+pub mod Tokens
+pub mod Kinds
+pub mod Grammar
+pub mod Form

@@ -4,9 +4,15 @@
 //! faults can name a place. `docs/language.md` has the grammar and the meaning.
 #![tactic(auto)]
 
+mod fault;
+mod spelling;
+mod parser;
 mod token;
+mod tokens;
 mod tree;
 
+pub use fault::SyntaxFault;
+pub use parser::parse;
 pub use token::{Keyword, Symbol, Token, TokenKind};
 pub use tree::{
     Arg, Args, BinaryOp, Block, Expr, FieldDecl, FieldUse, Fields, Iter, Iters, Place, Program,

@@ -125,9 +125,7 @@ fn read_iter<'a>(
     };
     let found = tests(alloc, body, &only.end_part)?;
     let (none, next) = going(alloc, body, &only.next_part)?;
-    let long = init_puts.len() > (MOST_NODES - 2) / 2
-        || nodes_of(found.as_slice()) > MOST_NODES - 2;
-    if !none.is_empty() || long {
+    if !none.is_empty() || is_long(init_puts.len(), found.as_slice()) {
         return Err(CheckError::NotSmall);
     }
     Ok(SmallIter {
@@ -139,6 +137,11 @@ fn read_iter<'a>(
         tests: found,
         next,
     })
+}
+
+// Whether init or the body has too many nodes: a `go` and its operand count 2, and so does each put.
+fn is_long(init_puts: usize, tests: &[Test]) -> bool {
+    init_puts > (MOST_NODES - 2) / 2 || nodes_of(tests) > MOST_NODES - 2
 }
 
 // The nodes of an end block: a test has an `if`, two operands, an operator and a `done`, and 2 for each put.

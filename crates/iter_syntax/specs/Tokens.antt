@@ -1,0 +1,67 @@
+-- The tokens of a text, and the first place where none begins.
+use Rattle.std.specs.Prelude.{◌≡◌, ℕ, ◌+◌, ◌<◌, Bool, true, false, ◌==◌, ◌||◌, not, List, [], ◌∷◌, ◌++◌, length, Some, None, Ok, Err, Result}
+use Rattle.std.specs.List.{list_all}
+use Rattle.iter_syntax.specs.declared.fault.SyntaxFault.{SyntaxFault}
+use Rattle.iter_syntax.specs.declared.fault.SyntaxFault.TheVariants as F
+use Rattle.iter_syntax.specs.declared.token.Token.{Token}
+use Rattle.iter_syntax.specs.declared.token.TokenKind.{TokenKind}
+use Rattle.iter_syntax.specs.Bytes.{is_separator}
+use Rattle.iter_syntax.specs.Spelling.{Spells, first_is, Ends}
+use Rattle.iter_syntax.specs.Deep.{deep_place}
+
+-- any bytes but LF
+abbrev pub in_line : List ℕ → Bool
+in_line bytes = list_all (λ b. not (b == 10)) bytes
+
+-- separators and comments before `after`: a comment is `#` and what runs to the next LF, or to the end
+pub data IsGap : List ℕ → List ℕ → Type 0 where
+  nothing : (after : List ℕ) → IsGap [] after
+  separator : (b : ℕ) (bytes after : List ℕ) → is_separator b ≡ true → IsGap bytes after → IsGap (b ∷ bytes) after
+  comment : (body bytes after : List ℕ) → in_line body ≡ true → IsGap bytes after → IsGap (35 ∷ (body ++ 10 ∷ bytes)) after
+  last_comment : (body : List ℕ) → in_line body ≡ true → IsGap (35 ∷ body) []
+
+-- a token begins a text: the longest spelling of its kind, and what follows it
+pub record BeginsWith (text spelling : List ℕ) (kind : TokenKind) (after : List ℕ) : Type 0 where
+  pub splits : text ≡ spelling ++ after
+  pub spells : Spells spelling kind
+  pub ends : Ends spelling kind after
+
+-- a text from offset `start` on is these tokens, each behind its gap, then a gap, and at offset `stop` the rest
+abbrev pub Leads : ℕ → List ℕ → List Token → ℕ → List ℕ → Type 0
+Leads start text [] stop rest = (gap : List ℕ) × (text ≡ gap ++ rest) × IsGap gap rest × (stop ≡ start + length gap)
+Leads start text (t ∷ ts) stop rest =
+    (gap : List ℕ) × (here : List ℕ) × (spelling : List ℕ) × (after : List ℕ) × (text ≡ gap ++ here) × IsGap gap here × (start + length gap ≡ (t.place).0) × BeginsWith here spelling t.kind after × Leads (start + length gap + length spelling) after ts stop rest
+
+-- the tokens of a text
+abbrev pub AreTokens : List ℕ → List Token → Type 0
+AreTokens text ts = Leads 0 text ts (length text) []
+
+-- what begins a separator or a comment
+abbrev pub begins_gap : ℕ → Bool
+begins_gap b = is_separator b || b == 35
+
+abbrev pub NoToken : List ℕ → Type 0
+NoToken text = (spelling : List ℕ) (kind : TokenKind) (after : List ℕ) → BeginsWith text spelling kind after → ⊥
+
+-- behind tokens and gaps stand bytes that begin neither a separator, a comment nor a token
+pub record IsLexPlace (text : List ℕ) (place : ℕ) : Type 0 where
+  pub tokens : List Token
+  pub rest : List ℕ
+  pub leads : Leads 0 text tokens place rest
+  pub some : 0 < length rest
+  pub no_gap : first_is begins_gap rest ≡ false
+  pub no_token : NoToken rest
+
+-- what reading the tokens of a text answers: its Lex place goes before its Deep place
+abbrev pub TokensAnswer : List ℕ → Result (List Token) SyntaxFault → Type 0
+TokensAnswer text (Ok ts) = AreTokens text ts × (deep_place ts ≡ None)
+TokensAnswer text (Err (F.Lex place)) = IsLexPlace text place
+TokensAnswer text (Err (F.Deep place)) = (ts : List Token) × AreTokens text ts × (deep_place ts ≡ Some place)
+TokensAnswer text (Err (F.Syntax place)) = ⊥
+TokensAnswer text (Err F.Memory) = Unit {0}
+
+-- a text has one token list or one Lex place, and not both
+pub record HasOneReading (text : List ℕ) : Type 0 where
+  pub tokens : (ts us : List Token) → AreTokens text ts → AreTokens text us → ts ≡ us
+  pub lex : (m n : ℕ) → IsLexPlace text m → IsLexPlace text n → m ≡ n
+  pub apart : (ts : List Token) (n : ℕ) → AreTokens text ts → IsLexPlace text n → ⊥

@@ -1,0 +1,250 @@
+// Records, iterators and programs.
+
+ghost use Rattle.std.specs.Prelude.{◌≡◌, ◌≤◌, ◌<◌, ◌+◌, length, IsTrue, IfOk};
+
+use super::reader::{Class, Refused, put, read_number, read_place, read_word, stands};
+use super::stmt::read_block;
+use crate::token::{Keyword, Symbol, Token};
+use crate::tree::{Arg, Args, FieldDecl, Fields, Iter, Program, RecordDecl, Width};
+use pulse_base::Listed;
+use std::alloc::Global;
+
+/// The name of a width.
+fn read_width(tokens: &[Token], at: usize) -> Result<(Width, usize), Refused>
+    requires { at ≤ length tokens.now }
+    ensures inside { IfOk result (λ x. x.1 ≤ length tokens.now) }
+    ensures moves { IfOk result (λ x. at + 1 ≤ x.1) }
+{
+    if stands(tokens, at, Class::Keyword(Keyword::U8)) {
+        let (_, at) = read_place(tokens, at, Class::Keyword(Keyword::U8))?;
+        Ok((Width::U8, at))
+    } else if stands(tokens, at, Class::Keyword(Keyword::U16)) {
+        let (_, at) = read_place(tokens, at, Class::Keyword(Keyword::U16))?;
+        Ok((Width::U16, at))
+    } else if stands(tokens, at, Class::Keyword(Keyword::U32)) {
+        let (_, at) = read_place(tokens, at, Class::Keyword(Keyword::U32))?;
+        Ok((Width::U32, at))
+    } else if stands(tokens, at, Class::Keyword(Keyword::U64)) {
+        let (_, at) = read_place(tokens, at, Class::Keyword(Keyword::U64))?;
+        Ok((Width::U64, at))
+    } else {
+        let (_, at) = read_place(tokens, at, Class::Keyword(Keyword::Ptr))?;
+        Ok((Width::Ptr, at))
+    }
+}
+
+/// A width, or a width and a length in square brackets.
+fn read_type(tokens: &[Token], at: usize) -> Result<((Width, Option<u64>), usize), Refused>
+    requires { at ≤ length tokens.now }
+    ensures inside { IfOk result (λ x. x.1 ≤ length tokens.now) }
+    ensures moves { IfOk result (λ x. at + 1 ≤ x.1) }
+{
+    if stands(tokens, at, Class::Symbol(Symbol::OpenSquare)) {
+        let (_, at) = read_place(tokens, at, Class::Symbol(Symbol::OpenSquare))?;
+        let (width, at) = read_width(tokens, at)?;
+        let (_, at) = read_place(tokens, at, Class::Symbol(Symbol::Semicolon))?;
+        let ((_, len), at) = read_number(tokens, at)?;
+        let (_, at) = read_place(tokens, at, Class::Symbol(Symbol::CloseSquare))?;
+        Ok(((width, Some(len)), at))
+    } else {
+        let (width, at) = read_width(tokens, at)?;
+        Ok(((width, None), at))
+    }
+}
+
+/// One field.
+fn read_field(tokens: &[Token], at: usize) -> Result<(FieldDecl, usize), Refused>
+    requires { at ≤ length tokens.now }
+    ensures inside { IfOk result (λ x. x.1 ≤ length tokens.now) }
+    ensures moves { IfOk result (λ x. at + 1 ≤ x.1) }
+{
+    let (name, at) = read_word(tokens, at)?;
+    let (_, at) = read_place(tokens, at, Class::Symbol(Symbol::Colon))?;
+    let ((width, len), at) = read_type(tokens, at)?;
+    let (_, at) = read_place(tokens, at, Class::Symbol(Symbol::Semicolon))?;
+    Ok((FieldDecl { name, width, len }, at))
+}
+
+/// Fields as long as one begins.
+fn read_row(alloc: Global, tokens: &[Token], at: usize) -> Result<(Fields, usize), Refused>
+    requires { at ≤ length tokens.now }
+    ensures inside { IfOk result (λ x. x.1 ≤ length tokens.now) }
+    ensures moves { IfOk result (λ x. at ≤ x.1) }
+{
+    let mut found = Listed::new(alloc);
+    let mut at = at;
+    'row: while stands(tokens, at, Class::Name) {
+        let (field, next) = read_field(tokens, at)?;
+        put(&mut found, field)?;
+        at = next;
+    }
+    Ok((found, at))
+}
+
+/// Fields in braces.
+fn read_fields(alloc: Global, tokens: &[Token], at: usize) -> Result<(Fields, usize), Refused>
+    requires { at ≤ length tokens.now }
+    ensures inside { IfOk result (λ x. x.1 ≤ length tokens.now) }
+    ensures moves { IfOk result (λ x. at + 1 ≤ x.1) }
+{
+    let (_, at) = read_place(tokens, at, Class::Symbol(Symbol::OpenBrace))?;
+    let (found, at) = read_row(alloc, tokens, at)?;
+    let (_, at) = read_place(tokens, at, Class::Symbol(Symbol::CloseBrace))?;
+    Ok((found, at))
+}
+
+/// `record name { fields }`
+fn read_record(alloc: Global, tokens: &[Token], at: usize) -> Result<(RecordDecl, usize), Refused>
+    requires { at ≤ length tokens.now }
+    ensures inside { IfOk result (λ x. x.1 ≤ length tokens.now) }
+    ensures moves { IfOk result (λ x. at + 1 ≤ x.1) }
+{
+    let (place, at) = read_place(tokens, at, Class::Keyword(Keyword::Record))?;
+    let (name, at) = read_word(tokens, at)?;
+    let (fields, at) = read_fields(alloc, tokens, at)?;
+    Ok((
+        RecordDecl {
+            place,
+            name,
+            fields,
+        },
+        at,
+    ))
+}
+
+/// Whether an argument is a pointer.
+fn read_kind(tokens: &[Token], at: usize) -> Result<(bool, usize), Refused>
+    requires { at ≤ length tokens.now }
+    ensures inside { IfOk result (λ x. x.1 ≤ length tokens.now) }
+    ensures moves { IfOk result (λ x. at + 1 ≤ x.1) }
+{
+    if stands(tokens, at, Class::Keyword(Keyword::Int)) {
+        let (_, at) = read_place(tokens, at, Class::Keyword(Keyword::Int))?;
+        Ok((false, at))
+    } else {
+        let (_, at) = read_place(tokens, at, Class::Keyword(Keyword::Ptr))?;
+        Ok((true, at))
+    }
+}
+
+/// One argument.
+fn read_arg(tokens: &[Token], at: usize) -> Result<(Arg, usize), Refused>
+    requires { at ≤ length tokens.now }
+    ensures inside { IfOk result (λ x. x.1 ≤ length tokens.now) }
+    ensures moves { IfOk result (λ x. at + 1 ≤ x.1) }
+{
+    let (name, at) = read_word(tokens, at)?;
+    let (_, at) = read_place(tokens, at, Class::Symbol(Symbol::Colon))?;
+    let (pointer, at) = read_kind(tokens, at)?;
+    Ok((Arg { name, pointer }, at))
+}
+
+/// Arguments with commas between them, or none.
+fn read_row_of_args(alloc: Global, tokens: &[Token], at: usize) -> Result<(Args, usize), Refused>
+    requires { at ≤ length tokens.now }
+    ensures inside { IfOk result (λ x. x.1 ≤ length tokens.now) }
+    ensures moves { IfOk result (λ x. at ≤ x.1) }
+{
+    let mut found = Listed::new(alloc);
+    if !stands(tokens, at, Class::Name) {
+        return Ok((found, at));
+    }
+    let (first, next) = read_arg(tokens, at)?;
+    put(&mut found, first)?;
+    let mut at = next;
+    'row: while stands(tokens, at, Class::Symbol(Symbol::Comma)) {
+        let (_, next) = read_place(tokens, at, Class::Symbol(Symbol::Comma))?;
+        let (arg, next) = read_arg(tokens, next)?;
+        put(&mut found, arg)?;
+        at = next;
+    }
+    Ok((found, at))
+}
+
+/// Arguments in parentheses.
+fn read_args(alloc: Global, tokens: &[Token], at: usize) -> Result<(Args, usize), Refused>
+    requires { at ≤ length tokens.now }
+    ensures inside { IfOk result (λ x. x.1 ≤ length tokens.now) }
+    ensures moves { IfOk result (λ x. at + 1 ≤ x.1) }
+{
+    let (_, at) = read_place(tokens, at, Class::Symbol(Symbol::OpenRound))?;
+    let (found, at) = read_row_of_args(alloc, tokens, at)?;
+    let (_, at) = read_place(tokens, at, Class::Symbol(Symbol::CloseRound))?;
+    Ok((found, at))
+}
+
+/// `iter name on on { pad init end next }`
+fn read_iter(
+    alloc: Global,
+    tokens: &[Token],
+    at: usize,
+    depth: usize,
+) -> Result<(Iter, usize), Refused>
+    requires { at ≤ length tokens.now }
+    ensures inside { IfOk result (λ x. x.1 ≤ length tokens.now) }
+    ensures moves { IfOk result (λ x. at + 1 ≤ x.1) }
+{
+    let (place, at) = read_place(tokens, at, Class::Keyword(Keyword::Iter))?;
+    let (name, at) = read_word(tokens, at)?;
+    let (_, at) = read_place(tokens, at, Class::Keyword(Keyword::On))?;
+    let (on, at) = read_word(tokens, at)?;
+    let (_, at) = read_place(tokens, at, Class::Symbol(Symbol::OpenBrace))?;
+    let (_, at) = read_place(tokens, at, Class::Keyword(Keyword::Pad))?;
+    let (pad, at) = read_fields(alloc, tokens, at)?;
+    let (_, at) = read_place(tokens, at, Class::Keyword(Keyword::Init))?;
+    let (args, at) = read_args(alloc, tokens, at)?;
+    let (init_part, at) = read_block(alloc, tokens, at, depth)?;
+    let (_, at) = read_place(tokens, at, Class::Keyword(Keyword::End))?;
+    let (end_part, at) = read_block(alloc, tokens, at, depth)?;
+    let (_, at) = read_place(tokens, at, Class::Next)?;
+    let (next_part, at) = read_block(alloc, tokens, at, depth)?;
+    let (_, at) = read_place(tokens, at, Class::Symbol(Symbol::CloseBrace))?;
+    let found = Iter {
+        place,
+        name,
+        on,
+        pad,
+        args,
+        init_part,
+        end_part,
+        next_part,
+    };
+    Ok((found, at))
+}
+
+/// Whether a record or an iterator may begin with the token at a place.
+fn decl_stands(tokens: &[Token], at: usize) -> bool
+    requires { at ≤ length tokens.now }
+    ensures { IsTrue result → at < length tokens.now }
+{
+    stands(tokens, at, Class::Keyword(Keyword::Record))
+        || stands(tokens, at, Class::Keyword(Keyword::Iter))
+}
+
+/// Records and iterators as long as one begins; `depth` bounds their nesting.
+pub(crate) fn read_program(
+    alloc: Global,
+    tokens: &[Token],
+    at: usize,
+    depth: usize,
+) -> Result<(Program, usize), Refused>
+    requires { at ≤ length tokens.now }
+    ensures inside { IfOk result (λ x. x.1 ≤ length tokens.now) }
+    ensures moves { IfOk result (λ x. at ≤ x.1) }
+{
+    let mut records = Listed::new(alloc);
+    let mut iters = Listed::new(alloc);
+    let mut at = at;
+    'row: while decl_stands(tokens, at) {
+        if stands(tokens, at, Class::Keyword(Keyword::Record)) {
+            let (record, next) = read_record(alloc, tokens, at)?;
+            put(&mut records, record)?;
+            at = next;
+        } else {
+            let (iter, next) = read_iter(alloc, tokens, at, depth)?;
+            put(&mut iters, iter)?;
+            at = next;
+        }
+    }
+    Ok((Program { records, iters }, at))
+}

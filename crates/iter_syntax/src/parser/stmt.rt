@@ -1,0 +1,309 @@
+// Blocks and statements.
+
+ghost use Rattle.std.specs.Prelude.{◌≡◌, ◌≤◌, ◌<◌, ◌+◌, length, IsTrue, IfOk};
+
+use super::expr::{read_expr, read_use};
+use super::reader::{Class, Refused, put, read_number, read_place, read_word, stands};
+use crate::token::{Keyword, Symbol, Token};
+use crate::tree::{Block, Stmt, Stmts};
+use pulse_base::Listed;
+use std::alloc::Global;
+
+/// Whether a statement may begin with the token at a place.
+fn stmt_stands(tokens: &[Token], at: usize) -> bool
+    requires { at ≤ length tokens.now }
+    ensures { IsTrue result → at < length tokens.now }
+{
+    stands(tokens, at, Class::Name)
+        || stands(tokens, at, Class::Keyword(Keyword::Let))
+        || stands(tokens, at, Class::Keyword(Keyword::Pad))
+        || stands(tokens, at, Class::Keyword(Keyword::Cur))
+        || stands(tokens, at, Class::Keyword(Keyword::If))
+        || stands(tokens, at, Class::Keyword(Keyword::For))
+        || stands(tokens, at, Class::Keyword(Keyword::Done))
+        || stands(tokens, at, Class::Keyword(Keyword::Go))
+}
+
+/// A block; `depth` bounds the nesting of blocks and of each expression.
+#[cycle(stmt)]
+pub(crate) fn read_block(
+    alloc: Global,
+    tokens: &[Token],
+    at: usize,
+    depth: usize,
+) -> Result<(Block, usize), Refused>
+    requires { at ≤ length tokens.now }
+    ensures inside { IfOk result (λ x. x.1 ≤ length tokens.now) }
+    ensures moves { IfOk result (λ x. at + 1 ≤ x.1) }
+{
+    if depth == 0 {
+        return Err(Refused::At(at));
+    }
+    let (place, at) = read_place(tokens, at, Class::Symbol(Symbol::OpenBrace))?;
+    let (stmts, at) = read_stmts(alloc, tokens, at, depth - 1)?;
+    let (close, at) = read_place(tokens, at, Class::Symbol(Symbol::CloseBrace))?;
+    Ok((
+        Block {
+            place,
+            stmts,
+            close,
+        },
+        at,
+    ))
+}
+
+/// Statements as long as one begins.
+#[cycle(stmt)]
+fn read_stmts(
+    alloc: Global,
+    tokens: &[Token],
+    at: usize,
+    depth: usize,
+) -> Result<(Stmts, usize), Refused>
+    requires { at ≤ length tokens.now }
+    ensures inside { IfOk result (λ x. x.1 ≤ length tokens.now) }
+    ensures moves { IfOk result (λ x. at ≤ x.1) }
+{
+    let mut found = Listed::new(alloc);
+    let mut at = at;
+    'row: while stmt_stands(tokens, at) {
+        match read_stmt(alloc, tokens, at, depth) {
+            Ok((stmt, next)) => {
+                put(&mut found, stmt)?;
+                at = next;
+            }
+            Err(refused) => return Err(refused),
+        }
+    }
+    Ok((found, at))
+}
+
+/// One statement.
+#[cycle(stmt)]
+fn read_stmt(
+    alloc: Global,
+    tokens: &[Token],
+    at: usize,
+    depth: usize,
+) -> Result<(Stmt, usize), Refused>
+    requires { at ≤ length tokens.now }
+    ensures inside { IfOk result (λ x. x.1 ≤ length tokens.now) }
+    ensures moves { IfOk result (λ x. at + 1 ≤ x.1) }
+{
+    if stands(tokens, at, Class::Keyword(Keyword::Let)) {
+        read_let(alloc, tokens, at, depth)
+    } else if stands(tokens, at, Class::Name) {
+        read_set(alloc, tokens, at, depth)
+    } else if stands(tokens, at, Class::Keyword(Keyword::Pad)) {
+        read_set_pad(alloc, tokens, at, depth)
+    } else if stands(tokens, at, Class::Keyword(Keyword::Cur)) {
+        read_set_cur(alloc, tokens, at, depth)
+    } else if stands(tokens, at, Class::Keyword(Keyword::If)) {
+        read_if(alloc, tokens, at, depth)
+    } else if stands(tokens, at, Class::Keyword(Keyword::For)) {
+        read_for(alloc, tokens, at, depth)
+    } else if stands(tokens, at, Class::Keyword(Keyword::Done)) {
+        read_done(tokens, at)
+    } else {
+        read_go(alloc, tokens, at, depth)
+    }
+}
+
+/// `let name = value ;`
+fn read_let(
+    alloc: Global,
+    tokens: &[Token],
+    at: usize,
+    depth: usize,
+) -> Result<(Stmt, usize), Refused>
+    requires { at ≤ length tokens.now }
+    ensures inside { IfOk result (λ x. x.1 ≤ length tokens.now) }
+    ensures moves { IfOk result (λ x. at + 1 ≤ x.1) }
+{
+    let (place, at) = read_place(tokens, at, Class::Keyword(Keyword::Let))?;
+    let (name, at) = read_word(tokens, at)?;
+    let (_, at) = read_place(tokens, at, Class::Symbol(Symbol::Assign))?;
+    let (value, at) = read_expr(alloc, tokens, at, depth)?;
+    let (_, at) = read_place(tokens, at, Class::Symbol(Symbol::Semicolon))?;
+    Ok((Stmt::Let { place, name, value }, at))
+}
+
+/// `name = value ;`
+fn read_set(
+    alloc: Global,
+    tokens: &[Token],
+    at: usize,
+    depth: usize,
+) -> Result<(Stmt, usize), Refused>
+    requires { at ≤ length tokens.now }
+    ensures inside { IfOk result (λ x. x.1 ≤ length tokens.now) }
+    ensures moves { IfOk result (λ x. at + 1 ≤ x.1) }
+{
+    let (name, at) = read_word(tokens, at)?;
+    let (_, at) = read_place(tokens, at, Class::Symbol(Symbol::Assign))?;
+    let (value, at) = read_expr(alloc, tokens, at, depth)?;
+    let (_, at) = read_place(tokens, at, Class::Symbol(Symbol::Semicolon))?;
+    let place = name.place;
+    Ok((Stmt::Set { place, name, value }, at))
+}
+
+/// `pad . target = value ;`
+fn read_set_pad(
+    alloc: Global,
+    tokens: &[Token],
+    at: usize,
+    depth: usize,
+) -> Result<(Stmt, usize), Refused>
+    requires { at ≤ length tokens.now }
+    ensures inside { IfOk result (λ x. x.1 ≤ length tokens.now) }
+    ensures moves { IfOk result (λ x. at + 1 ≤ x.1) }
+{
+    let (place, at) = read_place(tokens, at, Class::Keyword(Keyword::Pad))?;
+    let (_, at) = read_place(tokens, at, Class::Symbol(Symbol::Dot))?;
+    let (target, at) = read_use(alloc, tokens, at, depth)?;
+    let (_, at) = read_place(tokens, at, Class::Symbol(Symbol::Assign))?;
+    let (value, at) = read_expr(alloc, tokens, at, depth)?;
+    let (_, at) = read_place(tokens, at, Class::Symbol(Symbol::Semicolon))?;
+    Ok((
+        Stmt::SetPad {
+            place,
+            target,
+            value,
+        },
+        at,
+    ))
+}
+
+/// `cur . target = value ;`
+fn read_set_cur(
+    alloc: Global,
+    tokens: &[Token],
+    at: usize,
+    depth: usize,
+) -> Result<(Stmt, usize), Refused>
+    requires { at ≤ length tokens.now }
+    ensures inside { IfOk result (λ x. x.1 ≤ length tokens.now) }
+    ensures moves { IfOk result (λ x. at + 1 ≤ x.1) }
+{
+    let (place, at) = read_place(tokens, at, Class::Keyword(Keyword::Cur))?;
+    let (_, at) = read_place(tokens, at, Class::Symbol(Symbol::Dot))?;
+    let (target, at) = read_use(alloc, tokens, at, depth)?;
+    let (_, at) = read_place(tokens, at, Class::Symbol(Symbol::Assign))?;
+    let (value, at) = read_expr(alloc, tokens, at, depth)?;
+    let (_, at) = read_place(tokens, at, Class::Symbol(Symbol::Semicolon))?;
+    Ok((
+        Stmt::SetCur {
+            place,
+            target,
+            value,
+        },
+        at,
+    ))
+}
+
+/// `if test yes`, or with `else no`.
+#[cycle(stmt)]
+fn read_if(
+    alloc: Global,
+    tokens: &[Token],
+    at: usize,
+    depth: usize,
+) -> Result<(Stmt, usize), Refused>
+    requires { at ≤ length tokens.now }
+    ensures inside { IfOk result (λ x. x.1 ≤ length tokens.now) }
+    ensures moves { IfOk result (λ x. at + 1 ≤ x.1) }
+{
+    let (place, at) = read_place(tokens, at, Class::Keyword(Keyword::If))?;
+    let (test, at) = read_expr(alloc, tokens, at, depth)?;
+    let (yes, at) = read_block(alloc, tokens, at, depth)?;
+    let (no, at) = read_else(alloc, tokens, at, depth)?;
+    Ok((
+        Stmt::If {
+            place,
+            test,
+            yes,
+            no,
+        },
+        at,
+    ))
+}
+
+/// `else` and a block, or nothing.
+#[cycle(stmt)]
+fn read_else(
+    alloc: Global,
+    tokens: &[Token],
+    at: usize,
+    depth: usize,
+) -> Result<(Option<Block>, usize), Refused>
+    requires { at ≤ length tokens.now }
+    ensures inside { IfOk result (λ x. x.1 ≤ length tokens.now) }
+    ensures moves { IfOk result (λ x. at ≤ x.1) }
+{
+    if stands(tokens, at, Class::Keyword(Keyword::Else)) {
+        let (_, at) = read_place(tokens, at, Class::Keyword(Keyword::Else))?;
+        let (no, at) = read_block(alloc, tokens, at, depth)?;
+        Ok((Some(no), at))
+    } else {
+        Ok((None, at))
+    }
+}
+
+/// `for name in first .. past body`
+#[cycle(stmt)]
+fn read_for(
+    alloc: Global,
+    tokens: &[Token],
+    at: usize,
+    depth: usize,
+) -> Result<(Stmt, usize), Refused>
+    requires { at ≤ length tokens.now }
+    ensures inside { IfOk result (λ x. x.1 ≤ length tokens.now) }
+    ensures moves { IfOk result (λ x. at + 1 ≤ x.1) }
+{
+    let (place, at) = read_place(tokens, at, Class::Keyword(Keyword::For))?;
+    let (name, at) = read_word(tokens, at)?;
+    let (_, at) = read_place(tokens, at, Class::Keyword(Keyword::In))?;
+    let ((_, first), at) = read_number(tokens, at)?;
+    let (_, at) = read_place(tokens, at, Class::Symbol(Symbol::Range))?;
+    let ((_, past), at) = read_number(tokens, at)?;
+    let (body, at) = read_block(alloc, tokens, at, depth)?;
+    Ok((
+        Stmt::For {
+            place,
+            name,
+            first,
+            past,
+            body,
+        },
+        at,
+    ))
+}
+
+/// `done ;`
+fn read_done(tokens: &[Token], at: usize) -> Result<(Stmt, usize), Refused>
+    requires { at ≤ length tokens.now }
+    ensures inside { IfOk result (λ x. x.1 ≤ length tokens.now) }
+    ensures moves { IfOk result (λ x. at + 1 ≤ x.1) }
+{
+    let (place, at) = read_place(tokens, at, Class::Keyword(Keyword::Done))?;
+    let (_, at) = read_place(tokens, at, Class::Symbol(Symbol::Semicolon))?;
+    Ok((Stmt::Done { place }, at))
+}
+
+/// `go to ;`
+fn read_go(
+    alloc: Global,
+    tokens: &[Token],
+    at: usize,
+    depth: usize,
+) -> Result<(Stmt, usize), Refused>
+    requires { at ≤ length tokens.now }
+    ensures inside { IfOk result (λ x. x.1 ≤ length tokens.now) }
+    ensures moves { IfOk result (λ x. at + 1 ≤ x.1) }
+{
+    let (place, at) = read_place(tokens, at, Class::Keyword(Keyword::Go))?;
+    let (to, at) = read_expr(alloc, tokens, at, depth)?;
+    let (_, at) = read_place(tokens, at, Class::Symbol(Symbol::Semicolon))?;
+    Ok((Stmt::Go { place, to }, at))
+}

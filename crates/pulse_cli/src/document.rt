@@ -1,0 +1,185 @@
+// The document of a walk.
+
+ghost use Rattle.std.specs.Prelude.{◌≡◌, ◌⊎◌};
+
+use crate::keys::{has_only, number, number_or, only_table, text_at};
+use arrayvec::ArrayVec;
+use iter_syntax::{SyntaxFault, parse};
+use pulse_base::Memory;
+use pulse_codegen::{Built, CheckError, build, check};
+use std::alloc::Global;
+use toml::{Table, Value};
+
+const MOST_TEXT: usize = 65_536;
+
+const MOST_REGION: usize = 4_096;
+
+const MOST_WORK: u64 = 1_048_576;
+
+const MEMORY_END: u64 = 0x1_0000_0000_0000;
+
+/// Why a document was not taken.
+#[derive(Clone, Copy, Debug, PartialEq, Eq)]
+pub(crate) enum Refusal {
+    /// It is no small document.
+    Refused,
+    /// Memory ran out.
+    Memory,
+}
+
+impl From<Memory> for Refusal {
+    fn from(_memory: Memory) -> Refusal {
+        Refusal::Memory
+    }
+}
+
+/// A region of memory, which may be read and written.
+#[derive(Debug, Drop)]
+pub(crate) struct Region {
+    pub base: u64,
+    pub bytes: Vec<u8>,
+}
+
+/// A walk that a document asks for.
+#[derive(Debug, Drop)]
+pub(crate) struct Plan {
+    pub built: Built,
+    pub region: Region,
+    pub args: ArrayVec<u64, 8>,
+    /// The most iterations: rounds × budget.
+    pub limit: u64,
+}
+
+/// Reads a document: its one program, region and request.
+pub(crate) fn read(alloc: Global, text: &[u8]) -> Result<Plan, Refusal> {
+    let table = match toml::table_from_slice(alloc, text) {
+        Ok(table) => table,
+        Err(error) => return Err(if error.is_memory() {
+            Refusal::Memory
+        } else {
+            Refusal::Refused
+        }),
+    };
+    if !has_only(
+        &table,
+        &["program", "budget", "rounds", "region", "request"],
+    ) {
+        return Err(Refusal::Refused);
+    }
+    let limit = read_limit(&table)?;
+    let region = read_region(alloc, &table)?;
+    let Some(request) = only_table(&table, "request") else {
+        return Err(Refusal::Refused);
+    };
+    let built = read_program(alloc, &table)?;
+    let args = read_request(request, &built)?;
+    Ok(Plan {
+        built,
+        region,
+        args,
+        limit,
+    })
+}
+
+fn read_limit(table: &Table) -> Result<u64, Refusal> {
+    let budget = number_or(table, "budget", 1, 65_535, 64);
+    let rounds = number_or(table, "rounds", 1, 1_000, 16);
+    match (budget, rounds) {
+        (Some(budget), Some(rounds)) if budget * rounds <= MOST_WORK => Ok(budget * rounds),
+        _ => Err(Refusal::Refused),
+    }
+}
+
+fn read_region(alloc: Global, table: &Table) -> Result<Region, Refusal> {
+    let Some(region) = only_table(table, "region") else {
+        return Err(Refusal::Refused);
+    };
+    if !has_only(region, &["base", "hex"]) {
+        return Err(Refusal::Refused);
+    }
+    let (Some(base), Some(text)) = (region.get("base"), text_at(region, "hex")) else {
+        return Err(Refusal::Refused);
+    };
+    let Some(base) = number(base, 0, MEMORY_END - 1) else {
+        return Err(Refusal::Refused);
+    };
+    let bytes = match hex::decode(alloc, text) {
+        Ok(bytes) => bytes,
+        Err(hex::FromHexError::OutOfMemory) => return Err(Refusal::Memory),
+        Err(_) => return Err(Refusal::Refused),
+    };
+    let len = bytes.len();
+    if len == 0 || len > MOST_REGION || len as u64 > MEMORY_END - base {
+        return Err(Refusal::Refused);
+    }
+    Ok(Region { base, bytes })
+}
+
+fn read_program(alloc: Global, table: &Table) -> Result<Built, Refusal> {
+    let Some(text) = text_at(table, "program") else {
+        return Err(Refusal::Refused);
+    };
+    if text.len() > MOST_TEXT {
+        return Err(Refusal::Refused);
+    }
+    let program = match parse(alloc, text.as_bytes()) {
+        Ok(program) => program,
+        Err(SyntaxFault::Memory) => return Err(Refusal::Memory),
+        Err(_) => return Err(Refusal::Refused),
+    };
+    match check(alloc, program) {
+        Ok(checked) => Ok(build(alloc, checked)?),
+        Err(CheckError::Memory) => Err(Refusal::Memory),
+        Err(CheckError::NotSmall) => Err(Refusal::Refused),
+    }
+}
+
+// The arguments of the request, as many as its iterator has.
+fn read_request(request: &Table, built: &Built) -> Result<ArrayVec<u64, 8>, Refusal> {
+    let known = has_only(request, &["iter", "args"]);
+    let named = match text_at(request, "iter") {
+        Some(name) => built.checked().has_iter(name.as_bytes()),
+        None => false,
+    };
+    let args = match request.get("args") {
+        None => Some(ArrayVec::new()),
+        Some(list) => read_args(list),
+    };
+    match args {
+        Some(args) if known && named && args.len() == usize::from(built.checked().arg_count()) =>
+            Ok(args),
+        _ => Err(Refusal::Refused),
+    }
+}
+
+// At most 8 arguments.
+fn read_args(list: &Value) -> Option<ArrayVec<u64, 8>> {
+    let mut args = ArrayVec::new();
+    for value in list.as_array()?.as_slice() {
+        if args.try_push(read_argument(value)?).is_err() {
+            return None;
+        }
+    }
+    Some(args)
+}
+
+// A whole number from 0, or a text of decimal digits, or of `0x` and hexadecimal digits, below 2^64.
+fn read_argument(value: &Value) -> Option<u64> {
+    if let Some(number) = value.as_integer() {
+        return u64::try_from(number).ok();
+    }
+    let text = value.as_str()?;
+    match text.strip_prefix("0x") {
+        Some(digits) => read_digits(digits, 16),
+        None => read_digits(text, 10),
+    }
+}
+
+fn read_digits(digits: &str, radix: u32) -> Option<u64>
+    requires { (radix ≡ 10) ⊎ (radix ≡ 16) }
+{
+    if digits.starts_with('+') {
+        return None;
+    }
+    u64::from_str_radix(digits, radix).ok()
+}

@@ -1,0 +1,386 @@
+// Walks over the top call, and every way in which it fails.
+
+ghost use Rattle.std.specs.Prelude.{◌≤◌};
+
+use crate::{AbsentKids, AbsentNet, pulse};
+use pulse_base::{Bytes, MemSink, MemSource, Numbers, Status};
+use std::alloc::Global;
+use std::test::Fail;
+
+const PROGRAM: &str = "record node { key: u64; val: u64; next: ptr; }
+iter find on node {
+  pad { key: u64; got: u64; }
+  init(head: ptr, key: int) { pad.key = key; go head; }
+  end {
+    if cur.key == pad.key { pad.got = cur.val; done; }
+    if cur.next == null { done; }
+  }
+  next { go cur.next; }
+}
+";
+
+// Four records at 4096, 4120, 4144 and 4168: keys 10 to 40, values 1 to 4, and the next of the last one.
+const FRONT: &str =
+    "0a00000000000000010000000000000018100000000000001400000000000000020000000000000030100000000000001e000000000000000300000000000000481000000000000028000000000000000400000000000000";
+
+const TO_NULL: &str = "0000000000000000";
+
+const TO_FIRST: &str = "0010000000000000";
+
+const TO_5000: &str = "8813000000000000";
+
+const CUT: &str = "00000000000000";
+
+// A walk: the keys before the region, the end of the region's bytes, the arguments, and the report's order and answer.
+struct Walk {
+    name: &'static str,
+    keys: &'static str,
+    last: &'static str,
+    args: &'static str,
+    order: &'static str,
+    answer: &'static str,
+}
+
+const WALKS: [Walk; 11] = [
+    Walk {
+        name: "finds the third",
+        keys: "",
+        last: TO_NULL,
+        args: "4096, 30",
+        order: " 0 0 0",
+        answer: "done 3 1e000000000000000300000000000000",
+    },
+    Walk {
+        name: "misses a key",
+        keys: "",
+        last: TO_NULL,
+        args: "4096, 99",
+        order: " 0 0 0 0",
+        answer: "done 4 63000000000000000000000000000000",
+    },
+    Walk {
+        name: "starts unmapped",
+        keys: "",
+        last: TO_NULL,
+        args: "5000, 30",
+        order: "",
+        answer: "fault unmapped 5000 0",
+    },
+    Walk {
+        name: "starts between records",
+        keys: "",
+        last: TO_NULL,
+        args: "4150, 30",
+        order: " 0",
+        answer: "fault unmapped 2621440 1",
+    },
+    Walk {
+        name: "finds between records",
+        keys: "",
+        last: TO_NULL,
+        args: "4150, 196608",
+        order: " 0",
+        answer: "done 1 00000300000000000000481000000000",
+    },
+    Walk {
+        name: "meets a cut record",
+        keys: "",
+        last: CUT,
+        args: "4096, 99",
+        order: " 0 0 0",
+        answer: "fault unmapped 4168 3",
+    },
+    Walk {
+        name: "spends all rounds",
+        keys: "budget = 2\nrounds = 3\n",
+        last: TO_FIRST,
+        args: "4096, 99",
+        order: " 0 0 0 0 0 0",
+        answer: "spent 6",
+    },
+    Walk {
+        name: "is spent before it is unmapped",
+        keys: "budget = 2\nrounds = 2\n",
+        last: TO_5000,
+        args: "4096, 99",
+        order: " 0 0 0 0",
+        answer: "spent 4",
+    },
+    Walk {
+        name: "is unmapped in its third round",
+        keys: "budget = 2\nrounds = 3\n",
+        last: TO_5000,
+        args: "4096, 99",
+        order: " 0 0 0 0",
+        answer: "fault unmapped 5000 4",
+    },
+    Walk {
+        name: "reads arguments as texts",
+        keys: "",
+        last: TO_NULL,
+        args: "'0x001000', '020'",
+        order: " 0 0",
+        answer: "done 2 14000000000000000200000000000000",
+    },
+    Walk {
+        name: "takes the greatest argument",
+        keys: "",
+        last: TO_NULL,
+        args: "'18446744073709551615', 1",
+        order: "",
+        answer: "fault unmapped 18446744073709551615 0",
+    },
+];
+
+const FIRST_WALK: usize = 0;
+
+// What a run left.
+#[derive(Drop)]
+struct Ran {
+    status: Status,
+    out: MemSink,
+    err: MemSink,
+}
+
+// The calls of the ends that fail.
+#[derive(Clone, Copy)]
+struct Fails {
+    input: &'static [u32],
+    out: &'static [u32],
+    err: &'static [u32],
+}
+
+const NONE: Fails = Fails {
+    input: &[],
+    out: &[],
+    err: &[],
+};
+
+fn document(alloc: Global, program: &str, walk: &Walk) -> Result<String, Fail> {
+    let keys = walk.keys;
+    let last = walk.last;
+    let args = walk.args;
+    Ok(format!(in alloc;
+        "program = '''\n{program}'''\n{keys}[[region]]\nbase = 4096\nhex = \"{FRONT}{last}\"\n[[request]]\niter = \"find\"\nargs = [{args}]\n"
+    )?)
+}
+
+fn numbers(alloc: Global, items: &[u32]) -> Result<Numbers, Fail> {
+    let mut list = Numbers::new(alloc);
+    list.append(items)?;
+    Ok(list)
+}
+
+fn run(alloc: Global, words: &[&str], input: &[u8], piece: usize, fails: Fails) -> Result<Ran, Fail>
+    requires { 1 ≤ piece }
+{
+    let mut all = Vec::new(alloc);
+    for word in words {
+        all.push(String::from_str(alloc, word)?)?;
+    }
+    let mut bytes = Bytes::new(alloc);
+    bytes.append(input)?;
+    let mut source = MemSource::make(bytes, piece, numbers(alloc, fails.input)?);
+    let mut out = MemSink::make(alloc, 10_000, 4, numbers(alloc, fails.out)?)?;
+    let mut err = MemSink::make(alloc, 100, 100, numbers(alloc, fails.err)?)?;
+    let (mut net, mut kids) = (AbsentNet::new(), AbsentKids::new());
+    let status = pulse(
+        alloc,
+        all.as_slice(),
+        &mut source,
+        &mut out,
+        &mut err,
+        &mut net,
+        &mut kids,
+    );
+    Ok(Ran { status, out, err })
+}
+
+#[test]
+fn walks_lists(rt: HostRuntime) -> Result<(), Fail> {
+    for walk in &WALKS {
+        let document = document(rt.alloc(), PROGRAM, walk)?;
+        let ran = run(rt.alloc(), &["walk"], document.as_bytes(), 1000, NONE)?;
+        let (order, answer, last) = (walk.order, walk.answer, walk.last);
+        let report = format!(in rt.alloc();
+            "pulse report 1\norder{order}\nrequest 0 {answer}\nregion 0 hex {FRONT}{last}\nend\n"
+        )?;
+        assert_eq!(rt; ran.status, Status::Ok, "{}", walk.name);
+        assert_eq!(rt; ran.out.taken(), report.as_bytes(), "{}", walk.name);
+        assert_eq!(rt; ran.err.taken(), b"".as_slice(), "{}", walk.name);
+    }
+    Ok(())
+}
+
+// A failure: the words, the bytes that a read takes, the calls that fail, the status and what out and err took.
+#[derive(Clone, Copy)]
+struct Failure {
+    name: &'static str,
+    words: &'static [&'static str],
+    piece: usize,
+    fails: Fails,
+    status: Status,
+    out: &'static [u8],
+    err: &'static [u8],
+}
+
+const NO_WORDS: Failure = Failure {
+    name: "no words",
+    words: &[],
+    piece: 1000,
+    fails: NONE,
+    status: Status::Usage,
+    out: b"",
+    err: b"pulse: usage\n",
+};
+
+const READ: Failure = Failure {
+    name: "the first read",
+    words: &["walk"],
+    piece: 1000,
+    fails: Fails {
+        input: &[0],
+        ..NONE
+    },
+    status: Status::ReadFault,
+    out: b"",
+    err: b"pulse: read\n",
+};
+
+const WRITE: Failure = Failure {
+    name: "the first write",
+    fails: Fails { out: &[0], ..NONE },
+    status: Status::WriteFault,
+    err: b"pulse: write\n",
+    ..READ
+};
+
+const FAILURES: [Failure; 9] = [
+    NO_WORDS,
+    Failure {
+        name: "an empty word",
+        words: &[""],
+        ..NO_WORDS
+    },
+    Failure {
+        name: "a second word",
+        words: &["walk", "walk"],
+        ..NO_WORDS
+    },
+    READ,
+    Failure {
+        name: "the second read",
+        piece: 8,
+        fails: Fails {
+            input: &[1],
+            ..NONE
+        },
+        ..READ
+    },
+    WRITE,
+    Failure {
+        name: "the fourth write",
+        fails: Fails { out: &[3], ..NONE },
+        out: b"pulse report",
+        ..WRITE
+    },
+    Failure {
+        name: "the line of no words",
+        fails: Fails { err: &[0], ..NONE },
+        status: Status::WriteFault,
+        err: b"",
+        ..NO_WORDS
+    },
+    Failure {
+        name: "a read and its line",
+        fails: Fails {
+            input: &[0],
+            err: &[0],
+            out: &[],
+        },
+        status: Status::WriteFault,
+        err: b"",
+        ..READ
+    },
+];
+
+#[test]
+fn says_why_it_fails(rt: HostRuntime) -> Result<(), Fail> {
+    let document = document(rt.alloc(), PROGRAM, &WALKS[FIRST_WALK])?;
+    for failure in &FAILURES {
+        assert!(rt; failure.piece >= 1);
+        let ran = run(
+            rt.alloc(),
+            failure.words,
+            document.as_bytes(),
+            failure.piece,
+            failure.fails,
+        )?;
+        assert_eq!(rt; ran.status, failure.status, "{}", failure.name);
+        assert_eq!(rt; ran.out.taken(), failure.out, "{}", failure.name);
+        assert_eq!(rt; ran.err.taken(), failure.err, "{}", failure.name);
+    }
+    Ok(())
+}
+
+// A text of the document, and what stands in its place.
+const REFUSED: [(&str, &str); 24] = [
+    ("base = 4096", "base = 4096\nshow = true"),
+    ("base = 4096", "base = -1"),
+    ("base = 4096", "base = 281474976710656"),
+    ("base = 4096", "base = 281474976710655"),
+    ("base = 4096", "base = '4096'"),
+    ("base = 4096\n", ""),
+    ("[[region]]", "[region]"),
+    (
+        "[[request]]",
+        "[[region]]\nbase = 1\nhex = '00'\n[[request]]",
+    ),
+    ("[[request]]", "[[request]]\niter = 'find'\n[[request]]"),
+    ("[[region]]", "budget = 0\n[[region]]"),
+    ("[[region]]", "budget = 65535\nrounds = 17\n[[region]]"),
+    ("[[region]]", "rounds = 1001\n[[region]]"),
+    ("[[region]]", "events = []\n[[region]]"),
+    ("hex = \"0", "hex = \""),
+    ("hex = \"0", "hex = \"g"),
+    ("iter = \"find\"", "iter = \"bump\""),
+    ("iter = \"find\"\n", ""),
+    ("args = [4096, 30]", "args = [4096]"),
+    ("args = [4096, 30]", "args = [4096, -1]"),
+    ("args = [4096, 30]", "args = [4096, '18446744073709551616']"),
+    ("args = [4096, 30]", "args = [4096, '+1']"),
+    ("key: u64", "key: u32"),
+    ("next { go cur.next; }", "next { go cur.key; }"),
+    ("pad.got = cur.val", "pad.gone = cur.val"),
+];
+
+#[test]
+fn refuses_what_is_no_small_document(rt: HostRuntime) -> Result<(), Fail> {
+    let whole = document(rt.alloc(), PROGRAM, &WALKS[FIRST_WALK])?;
+    for (old, new) in REFUSED {
+        let changed = replaced(rt.alloc(), whole.as_str(), old, new)?;
+        refuses(&rt, changed.as_bytes(), new)?;
+    }
+    refuses(&rt, b"", "no bytes")?;
+    refuses(&rt, b"program = '\xff'", "no text")?;
+    refuses(&rt, b"\0\0\0\0", "zeros")?;
+    Ok(())
+}
+
+fn refuses<R: std::process::Abort + AllocGlobal>(
+    rt: &R,
+    document: &[u8],
+    name: &str,
+) -> Result<(), Fail> {
+    let ran = run(rt.alloc(), &["walk"], document, 1000, NONE)?;
+    assert_eq!(rt; ran.status, Status::Refused, "{name}");
+    assert_eq!(rt; ran.out.taken(), b"".as_slice(), "{name}");
+    assert_eq!(rt; ran.err.taken(), b"pulse: refused\n".as_slice(), "{name}");
+    Ok(())
+}
+
+// The text with the first place of `old` replaced.
+fn replaced(alloc: Global, text: &str, old: &str, new: &str) -> Result<String, Fail> {
+    let (front, back) = text.split_once(old).ok_or("the document has no such text")?;
+    Ok(format!(in alloc; "{front}{new}{back}")?)
+}

@@ -1,0 +1,5 @@
+mod Positions
+mod Faults
+mod Orders
+mod Lookups
+pub mod Laws

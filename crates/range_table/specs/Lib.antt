@@ -1,0 +1,4 @@
+pub mod Memory
+pub mod Table
+pub mod Order
+pub mod Searchable
