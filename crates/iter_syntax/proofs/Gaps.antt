@@ -1,16 +1,13 @@
 -- The reader skips just the separators and comments at the front of a text.
-use Rattle.std.proofs.Common.{◌≡◌, ℕ, suc, ◌+◌, ◌<◌, ◌≤◌, Bool, true, false, cond, not, ◌||◌, List, [], ◌∷◌, ◌++◌, length, take, drop, refl, sym, ap, ◌∙◌, subst, arith, append_assoc, length-append}
+use Rattle.std.proofs.Common.{◌≡◌, ℕ, ◌+◌, Bool, true, false, not, List, [], ◌∷◌, ◌++◌, length, refl, sym, ap, subst, arith, append_assoc, length-append}
 use Rattle.std.specs.Prelude.{◌==◌}
-use Rattle.std.specs.List.{list_all}
 use Rattle.std.specs.Cmp.{first_so, second_so}
 use Rattle.std.proofs.lemmas.Bool.Decides.{nat_tests}
 use Rattle.std.proofs.lemmas.Bool.{eqb-true}
-use Rattle.std.proofs.lemmas.List.Folds.{list_all-append}
 use Rattle.iter_syntax.specs.Bytes.{is_separator}
 use Rattle.iter_syntax.specs.Spelling.{first_is}
 use Rattle.iter_syntax.specs.Reading.{gap_len}
 use Rattle.iter_syntax.specs.Tokens.{in_line, IsGap, nothing, separator, comment, last_comment, begins_gap}
-use Rattle.iter_syntax.proofs.Prefixes.{one_more}
 
 append_nil : (xs : List ℕ) → xs ++ [] ≡ xs
 append_nil [] = refl

@@ -1,3 +1,15 @@
+pub mod Exact
+pub mod ExactMany
+pub mod ExactChoice
+pub mod ExactForm
+pub mod Stops
+pub mod EachKind
+pub mod ExactExpr
+pub mod ExactStmt
+pub mod ExactDecl
+pub mod Deeper
+pub mod Whole
+pub mod Turns
 pub mod Prefixes
 pub mod Symbols
 pub mod Numbers
@@ -6,8 +18,4 @@ pub mod Reading
 pub mod Gaps
 pub mod OneReading
 pub mod Steps
-pub mod Exact
-pub mod ExactMany
-pub mod ExactChoice
-pub mod ExactForm
-pub mod Stops
+pub mod OneProgram

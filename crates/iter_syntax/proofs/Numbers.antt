@@ -1,10 +1,10 @@
 -- The reader's numbers are those of the definition.
-use Rattle.std.proofs.Common.{◌≡◌, ℕ, ◌+◌, ◌*◌, ◌^◌, ◌<◌, ◌≤◌, Bool, true, false, cond, ◌&&◌, List, [], ◌∷◌, ◌++◌, length, take, drop, nat_eq, nat_lt, Some, None, refl, sym, ap, ◌∙◌, subst, arith}
+use Rattle.std.proofs.Common.{◌≡◌, ℕ, ◌+◌, ◌*◌, ◌^◌, ◌<◌, ◌≤◌, Bool, true, false, cond, ◌&&◌, List, [], ◌∷◌, drop, nat_eq, nat_lt, Some, None, refl, sym, subst, arith}
 use Rattle.std.specs.Prelude.{codes, Option}
 use Rattle.std.specs.List.{list_all, starts_with}
 use Rattle.std.specs.Cmp.{first_so, second_so}
-use Rattle.std.specs.Char.{is_ascii_digit, is_ascii_alphanumeric, digit_value}
-use Rattle.std.specs.Str.Parse.{digits_value, digits_value_after}
+use Rattle.std.specs.Char.{is_ascii_digit, digit_value}
+use Rattle.std.specs.Str.Parse.{digits_value_after}
 use Rattle.std.proofs.Math.Bool.{and-false}
 use Rattle.std.proofs.Math.Nat.{mul-le-mul_left}
 use Rattle.std.proofs.lemmas.Bool.{ltb-true, lt-ltb, ltb-false, le-ltb}
@@ -14,7 +14,7 @@ use Rattle.std.proofs.lemmas.Str.Parse.{digit_from_value}
 use Rattle.std.proofs.lemmas.Slice.Eq.{starts_is}
 use Rattle.iter_syntax.specs.Bytes.{in_run}
 use Rattle.iter_syntax.specs.Spelling.{is_numeral, numeral, number_of, first_is}
-use Rattle.iter_syntax.specs.Reading.{next_value, then_numeral, numeral_from, read_numeral, read_number}
+use Rattle.iter_syntax.specs.Reading.{then_numeral, numeral_from, read_numeral, read_number}
 
 -- more digits write no smaller number
 grows : (radix n : ℕ) (ds : List ℕ) → 1 ≤ radix → n ≤ digits_value_after radix n ds

@@ -1,6 +1,6 @@
 -- A text has one token list or one Lex place, and the reader's steps follow the definition.
-use Rattle.std.proofs.Common.{◌≡◌, ℕ, suc, ◌+◌, ◌<◌, ◌≤◌, Bool, true, false, List, [], ◌∷◌, ◌++◌, length, take, drop, Some, None, refl, sym, ap, ◌∙◌, subst, arith, append_assoc, length-append}
-use Rattle.std.specs.Prelude.{Option, IfSome}
+use Rattle.std.proofs.Common.{◌≡◌, ℕ, ◌+◌, ◌<◌, Bool, true, false, List, [], ◌∷◌, ◌++◌, length, take, drop, Some, None, refl, sym, ap, ◌∙◌, subst, arith, length-append}
+use Rattle.std.specs.Prelude.{Option}
 use Rattle.std.specs.Char.{is_ascii_lowercase, is_ascii_digit}
 use Rattle.std.proofs.Math.Seq.{take-append_seam, drop-append_seam}
 use Rattle.std.proofs.lemmas.Bool.Decides.{nat_tests}
@@ -10,15 +10,15 @@ use Rattle.iter_syntax.specs.declared.token.Token.{Token}
 use Rattle.iter_syntax.specs.declared.token.TokenKind.{TokenKind}
 use Rattle.iter_syntax.specs.declared.token.TokenKind.TheVariants as T
 use Rattle.iter_syntax.specs.declared.tokens.front.Front.{Front}
-use Rattle.iter_syntax.specs.Spelling.{keyword_text, symbol_text, number_of, Spells, first_is, Ends}
+use Rattle.iter_syntax.specs.Spelling.{keyword_text, symbol_text, Spells, first_is}
 use Rattle.iter_syntax.specs.Reading.{gap_len, front_token}
-use Rattle.iter_syntax.specs.Tokens.{IsGap, BeginsWith, Leads, AreTokens, begins_gap, NoToken, IsLexPlace, HasOneReading}
+use Rattle.iter_syntax.specs.Tokens.{IsGap, BeginsWith, Leads, begins_gap, NoToken, IsLexPlace, HasOneReading}
 use Rattle.iter_syntax.proofs.Prefixes.{first_append, first_some}
 use Rattle.iter_syntax.proofs.Symbols.{symbol_length}
 use Rattle.iter_syntax.proofs.Numbers.{number_runs}
 use Rattle.iter_syntax.proofs.Words.{keyword_word, word_is}
-use Rattle.iter_syntax.proofs.Reading.{Fronts, token_read}
-use Rattle.iter_syntax.proofs.Gaps.{Outside, gap_skipped, gap_found}
+use Rattle.iter_syntax.proofs.Reading.{token_read}
+use Rattle.iter_syntax.proofs.Gaps.{gap_skipped}
 
 -- a token begins with a byte that begins no gap
 

@@ -1,12 +1,12 @@
 -- The reader finds just the token that the definitions put at the front of a text.
-use Rattle.std.proofs.Common.{◌≡◌, ℕ, suc, zero, ◌+◌, ◌-◌, ◌*◌, ◌^◌, ◌<◌, ◌≤◌, Bool, true, false, cond, List, [], ◌∷◌, ◌++◌, length, take, drop, nat_le, Some, None, refl, sym, ap, ◌∙◌, subst, arith, length-append}
-use Rattle.std.specs.Prelude.{Option, IfSome, IsTrue}
-use Rattle.std.specs.List.{prefix_len, list_all}
+use Rattle.std.proofs.Common.{◌≡◌, ℕ, ◌<◌, ◌≤◌, Bool, true, false, cond, List, [], ◌∷◌, ◌++◌, length, take, drop, nat_le, Some, None, refl, sym, ap, ◌∙◌, subst, arith, length-append}
+use Rattle.std.specs.Prelude.{Option, IfSome}
+use Rattle.std.specs.List.{prefix_len}
 use Rattle.std.specs.Char.{is_ascii_lowercase, is_ascii_digit}
 use Rattle.std.proofs.Math.Seq.{take-append_seam}
 use Rattle.std.proofs.lemmas.Bool.{leb-true, le-leb, cond_both}
 use Rattle.std.proofs.lemmas.Bool.Decides.{nat_tests}
-use Rattle.std.proofs.lemmas.List.{take-append-drop, length-take-le}
+use Rattle.std.proofs.lemmas.List.{take-append-drop}
 use Rattle.std.proofs.lemmas.List.Folds.{length-prefix_len}
 use Rattle.iter_syntax.specs.declared.token.Keyword.{Keyword}
 use Rattle.iter_syntax.specs.declared.token.Symbol.{Symbol}
@@ -18,8 +18,8 @@ use Rattle.iter_syntax.specs.Spelling.{keyword_text, keyword_of, symbol_text, sy
 use Rattle.iter_syntax.specs.Reading.{named, word_kind, front_word, numbered, front_number, marked, longer, front_symbol, read_number, front_token}
 use Rattle.iter_syntax.proofs.Prefixes.{prefix_passes, prefix_stops, prefix_whole, first_kept, first_some, first_append}
 use Rattle.iter_syntax.proofs.Symbols.{Begins, symbol_begins, symbol_taken, symbol_own, symbol_length, symbol_first}
-use Rattle.iter_syntax.proofs.Numbers.{IsRun, number_is, number_runs}
-use Rattle.iter_syntax.proofs.Words.{IsWord, keyword_found, keyword_own, keyword_word, keyword_length, word_is, is_word_from, small_goes_on}
+use Rattle.iter_syntax.proofs.Numbers.{number_is, number_runs}
+use Rattle.iter_syntax.proofs.Words.{keyword_found, keyword_own, keyword_word, keyword_length, word_is, is_word_from, small_goes_on}
 
 -- the text is a token's spelling and what follows it
 pub record Fronts (text : List ℕ) (f : Front) : Type 0 where

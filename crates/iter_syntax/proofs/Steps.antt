@@ -1,16 +1,15 @@
 -- The reader's steps follow the definition of the tokens of a text.
-use Rattle.std.proofs.Common.{◌≡◌, ℕ, ◌+◌, ◌-◌, ◌<◌, ◌≤◌, Bool, true, false, List, [], ◌∷◌, ◌++◌, length, take, drop, Some, None, refl, sym, ap, ◌∙◌, subst, arith, length-append, length-drop}
+use Rattle.std.proofs.Common.{◌≡◌, ℕ, ◌+◌, ◌-◌, ◌<◌, ◌≤◌, false, List, [], ◌∷◌, ◌++◌, length, take, drop, Some, None, refl, sym, ap, ◌∙◌, subst, arith, length-append, length-drop}
 use Rattle.std.proofs.lemmas.List.{drop-drop}
 use Rattle.std.proofs.Math.Seq.{take-length, drop-append_seam}
 use Rattle.std.specs.Prelude.{Option, IfSome}
 use Rattle.iter_syntax.specs.declared.token.Token.{Token}
-use Rattle.iter_syntax.specs.declared.token.TokenKind.{TokenKind}
 use Rattle.iter_syntax.specs.declared.tokens.front.Front.{Front}
 use Rattle.iter_syntax.specs.Spelling.{first_is}
 use Rattle.iter_syntax.specs.Reading.{gap_len, front_token, HasRead}
-use Rattle.iter_syntax.specs.Tokens.{IsGap, BeginsWith, Leads, AreTokens, begins_gap, NoToken, IsLexPlace}
+use Rattle.iter_syntax.specs.Tokens.{IsGap, BeginsWith, Leads, AreTokens, begins_gap, IsLexPlace}
 use Rattle.iter_syntax.proofs.Reading.{Fronts, fronts, token_read}
-use Rattle.iter_syntax.proofs.Gaps.{Outside, gap_found}
+use Rattle.iter_syntax.proofs.Gaps.{gap_found}
 
 -- one more token, with the gap behind it
 leads_more : (start : ℕ) (text : List ℕ) (ts : List Token) (t : Token) (stop : ℕ) (rest spelling after gap others : List ℕ) → Leads start text ts stop rest → stop ≡ (t.place).0 → BeginsWith rest spelling t.kind after → after ≡ gap ++ others → IsGap gap others → Leads start text (ts ++ t ∷ []) (stop + length spelling + length gap) others

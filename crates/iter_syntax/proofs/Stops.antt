@@ -19,7 +19,7 @@ Answers g ts (Read a (t ∷ rest)) = Stops g ts (t ∷ rest)
 Answers g ts (Stuck rest) = Stops g ts rest
 
 module _ {A : Type 0} (g : Grammar A) (p : Parser A) (first more : Token → Bool) (empty : Bool) (r : Exact g p first more empty) where
-  whole_got : (ts : Tokens) (a : A) → g.whole ts a → p ts ≡ Read a []
+  pub whole_got : (ts : Tokens) (a : A) → g.whole ts a → p ts ≡ Read a []
   whole_got ts a w = ap p (sym (append-nil ts)) ∙ r.complete ts [] a w refl
 
   not_past : (before rest : Tokens) (t : Token) (after : Tokens) (x : Reading A) → p (before ++ rest) ≡ x → rest ≡ t ∷ after → (Leaves (length after) x → ⊥) → g.begins (before ++ t ∷ []) → ⊥

@@ -149,4 +149,3 @@ is_operator level t = has_level level (kind_operator t.kind)
 -- what tokens give: a place, a word, a number with its place, an operator with its place
 abbrev pub place_of : Token → Place
 place_of t = t.place
-

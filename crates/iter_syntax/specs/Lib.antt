@@ -1,9 +1,13 @@
 pub mod Tree
+pub mod Kinds
+pub mod Grammar
+pub mod Form
+pub mod Productions
+pub mod Program
+pub mod Reads
 pub mod Bytes
 pub mod Spelling
 pub mod Deep
 pub mod Reading
 pub mod Tokens
-pub mod Kinds
-pub mod Grammar
-pub mod Form
+pub mod Parsed

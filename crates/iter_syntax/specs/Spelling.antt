@@ -1,5 +1,5 @@
 -- How a token is spelled, and what may follow its spelling.
-use Rattle.std.specs.Prelude.{◌≡◌, ℕ, ◌<◌, ◌≤◌, ◌^◌, Bool, true, false, ◌&&◌, nat_eq, nat_lt, cond, not, List, [], ◌∷◌, ◌++◌, length, drop, find, codes, bytes_eq, Option, Some, None, is_some, IsTrue}
+use Rattle.std.specs.Prelude.{◌≡◌, ℕ, ◌≤◌, ◌^◌, Bool, false, ◌&&◌, nat_eq, nat_lt, cond, List, [], ◌∷◌, ◌++◌, length, drop, find, codes, bytes_eq, Option, Some, None, is_some, IsTrue}
 use Rattle.std.specs.List.{list_all, starts_with}
 use Rattle.std.specs.Char.{is_ascii_lowercase, digit_value}
 use Rattle.std.specs.Str.Parse.{digits_value}
@@ -11,6 +11,7 @@ use Rattle.iter_syntax.specs.declared.token.TokenKind.{TokenKind}
 use Rattle.iter_syntax.specs.declared.token.TokenKind.TheVariants as T
 use Rattle.iter_syntax.specs.Bytes.{in_word, in_run}
 
+-- the reserved words
 abbrev pub keyword_text : Keyword → List ℕ
 keyword_text K.Record = codes "record"
 keyword_text K.Iter = codes "iter"
@@ -35,6 +36,7 @@ keyword_text K.U16 = codes "u16"
 keyword_text K.U32 = codes "u32"
 keyword_text K.U64 = codes "u64"
 
+-- all of them
 abbrev pub keywords : List Keyword
 keywords = K.Record ∷ K.Iter ∷ K.On ∷ K.Pad ∷ K.Init ∷ K.End ∷ K.Let ∷ K.If ∷ K.Else ∷ K.For ∷ K.In ∷ K.Done ∷ K.Go ∷ K.Cur ∷ K.Null ∷ K.At ∷ K.Int ∷ K.Ptr ∷ K.U8 ∷ K.U16 ∷ K.U32 ∷ K.U64 ∷ []
 
@@ -42,6 +44,7 @@ keywords = K.Record ∷ K.Iter ∷ K.On ∷ K.Pad ∷ K.Init ∷ K.End ∷ K.Let
 unfoldable pub keyword_of : List ℕ → Option Keyword
 keyword_of p = find (λ k. bytes_eq (keyword_text k) p) keywords
 
+-- the symbols
 abbrev pub symbol_text : Symbol → List ℕ
 symbol_text S.Range = codes ".."
 symbol_text S.EqualEqual = codes "=="
@@ -76,6 +79,7 @@ symbol_text S.Caret = codes "^"
 symbol_text S.Bang = codes "!"
 symbol_text S.Tilde = codes "~"
 
+-- all of them
 abbrev pub symbols : List Symbol
 symbols = S.Range ∷ S.EqualEqual ∷ S.NotEqual ∷ S.LessEqual ∷ S.GreaterEqual ∷ S.ShiftLeft ∷ S.ShiftRight ∷ S.AndAnd ∷ S.OrOr ∷ S.OpenBrace ∷ S.CloseBrace ∷ S.OpenRound ∷ S.CloseRound ∷ S.OpenSquare ∷ S.CloseSquare ∷ S.Colon ∷ S.Semicolon ∷ S.Comma ∷ S.Dot ∷ S.Assign ∷ S.Less ∷ S.Greater ∷ S.Plus ∷ S.Minus ∷ S.Star ∷ S.Slash ∷ S.Percent ∷ S.And ∷ S.Or ∷ S.Caret ∷ S.Bang ∷ S.Tilde ∷ []
 
@@ -88,11 +92,12 @@ abbrev pub is_word : List ℕ → Bool
 is_word [] = false
 is_word (b ∷ bs) = is_ascii_lowercase b && list_all in_word bs
 
--- the number below 2^64 that one or more digits write
+-- one or more digits that write a number below 2^64
 abbrev pub is_numeral : ℕ → List ℕ → Bool
 is_numeral radix [] = false
 is_numeral radix (d ∷ ds) = list_all (λ c. nat_lt (digit_value c) radix) (d ∷ ds) && nat_lt (digits_value radix (d ∷ ds)) (2 ^ 64)
 
+-- the number that they write
 abbrev pub numeral : ℕ → List ℕ → Option ℕ
 numeral radix ds = cond (is_numeral radix ds) (Some (digits_value radix ds)) None
 
@@ -112,6 +117,7 @@ abbrev pub first_is : (ℕ → Bool) → List ℕ → Bool
 first_is test [] = false
 first_is test (b ∷ bs) = test b
 
+-- whether a longer symbol begins with these bytes and that one
 abbrev pub goes_on_as_symbol : List ℕ → ℕ → Bool
 goes_on_as_symbol p b = is_some (symbol_of (p ++ b ∷ []))
 

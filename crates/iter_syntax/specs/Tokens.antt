@@ -40,6 +40,7 @@ AreTokens text ts = Leads 0 text ts (length text) []
 abbrev pub begins_gap : ℕ → Bool
 begins_gap b = is_separator b || b == 35
 
+-- no token begins the text
 abbrev pub NoToken : List ℕ → Type 0
 NoToken text = (spelling : List ℕ) (kind : TokenKind) (after : List ℕ) → BeginsWith text spelling kind after → ⊥
 

@@ -5,8 +5,8 @@
 #![tactic(auto)]
 
 mod fault;
-mod spelling;
 mod parser;
+mod spelling;
 mod token;
 mod tokens;
 mod tree;

@@ -67,7 +67,7 @@ const SYMBOLS: [Symbol; 32] = [
 
 impl Keyword {
     /// The reserved word itself.
-    pub fn text(self) -> &'static [u8]
+    pub(crate) fn text(self) -> &'static [u8]
         ensures { result.now ≡ keyword_text self }
     {
         match self {
@@ -99,7 +99,7 @@ impl Keyword {
 
 impl Symbol {
     /// The one or two bytes of the symbol.
-    pub fn text(self) -> &'static [u8]
+    pub(crate) fn text(self) -> &'static [u8]
         ensures { result.now ≡ symbol_text self }
     {
         match self {

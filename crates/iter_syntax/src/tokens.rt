@@ -58,3 +58,6 @@ fn read_tokens(alloc: Global, text: &[u8]) -> Result<Listed<Token>, SyntaxFault>
     }
     Ok(found)
 }
+
+#[cfg(test)]
+mod tests;

@@ -5,5 +5,12 @@
 #![tactic(auto)]
 
 mod instr;
+mod listing;
+mod row;
+#[cfg(test)]
+mod tests;
+mod word;
 
 pub use instr::Instr;
+pub use listing::line;
+pub use word::{from_word, to_word};

@@ -42,8 +42,9 @@ fn holds_span(region: &RegionSpan, p: u64, size: u16) -> bool
 }
 
 impl Table {
-    /// A table of these regions. The fault is that of the first region that has one, in list order:
-    /// that it is empty, that it ends past `MEMORY_END`, or that it overlaps an earlier one.
+    /// A table of these regions. Where there are at most [`MOST_REGIONS`], the fault is that of the first
+    /// region that has one, in list order: it is empty, it ends past `MEMORY_END`, or it overlaps an
+    /// earlier one. Takes no memory.
     pub fn new(list: Regions) -> Result<Table, TableFault>
         ensures made { IfOk result (λ t. (table_fault list ≡ None) × (t ≡ list)) }
         ensures refused { IfErr result (λ f. table_fault list ≡ Some f) }

@@ -1,10 +1,13 @@
 // Records, iterators and programs.
 
-ghost use Rattle.std.specs.Prelude.{◌≡◌, ◌≤◌, ◌<◌, ◌+◌, length, IsTrue, IfOk};
+ghost use Rattle.std.specs.Prelude.{◌≡◌, ◌≤◌, ◌<◌, ◌+◌, drop, length, IsTrue, IfOk};
+ghost use Rattle.iter_syntax.specs.Form.{at_first, any};
+ghost use Rattle.iter_syntax.specs.Productions as P;
+ghost use Rattle.iter_syntax.specs.Reads.{Reads, args_rest};
 
 use super::reader::{Class, Refused, put, read_number, read_place, read_word, stands};
 use super::stmt::read_block;
-use crate::token::{Keyword, Symbol, Token};
+use crate::token::{Keyword, Symbol, Token, TokenKind};
 use crate::tree::{Arg, Args, FieldDecl, Fields, Iter, Program, RecordDecl, Width};
 use pulse_base::Listed;
 use std::alloc::Global;
@@ -12,7 +15,7 @@ use std::alloc::Global;
 /// The name of a width.
 fn read_width(tokens: &[Token], at: usize) -> Result<(Width, usize), Refused>
     requires { at ≤ length tokens.now }
-    ensures inside { IfOk result (λ x. x.1 ≤ length tokens.now) }
+    ensures reads { Reads P.width.parse tokens.now at result }
     ensures moves { IfOk result (λ x. at + 1 ≤ x.1) }
 {
     if stands(tokens, at, Class::Keyword(Keyword::U8)) {
@@ -36,7 +39,7 @@ fn read_width(tokens: &[Token], at: usize) -> Result<(Width, usize), Refused>
 /// A width, or a width and a length in square brackets.
 fn read_type(tokens: &[Token], at: usize) -> Result<((Width, Option<u64>), usize), Refused>
     requires { at ≤ length tokens.now }
-    ensures inside { IfOk result (λ x. x.1 ≤ length tokens.now) }
+    ensures reads { Reads P.field_type.parse tokens.now at result }
     ensures moves { IfOk result (λ x. at + 1 ≤ x.1) }
 {
     if stands(tokens, at, Class::Symbol(Symbol::OpenSquare)) {
@@ -55,7 +58,7 @@ fn read_type(tokens: &[Token], at: usize) -> Result<((Width, Option<u64>), usize
 /// One field.
 fn read_field(tokens: &[Token], at: usize) -> Result<(FieldDecl, usize), Refused>
     requires { at ≤ length tokens.now }
-    ensures inside { IfOk result (λ x. x.1 ≤ length tokens.now) }
+    ensures reads { Reads P.field.parse tokens.now at result }
     ensures moves { IfOk result (λ x. at + 1 ≤ x.1) }
 {
     let (name, at) = read_word(tokens, at)?;
@@ -68,15 +71,19 @@ fn read_field(tokens: &[Token], at: usize) -> Result<(FieldDecl, usize), Refused
 /// Fields as long as one begins.
 fn read_row(alloc: Global, tokens: &[Token], at: usize) -> Result<(Fields, usize), Refused>
     requires { at ≤ length tokens.now }
-    ensures inside { IfOk result (λ x. x.1 ≤ length tokens.now) }
+    ensures reads { Reads (any P.field).parse tokens.now at result }
     ensures moves { IfOk result (λ x. at ≤ x.1) }
 {
     let mut found = Listed::new(alloc);
     let mut at = at;
     'row: while stands(tokens, at, Class::Name) {
-        let (field, next) = read_field(tokens, at)?;
-        put(&mut found, field)?;
-        at = next;
+        match read_field(tokens, at) {
+            Ok((field, next)) => {
+                put(&mut found, field)?;
+                at = next;
+            }
+            Err(refused) => return Err(refused),
+        }
     }
     Ok((found, at))
 }
@@ -84,7 +91,7 @@ fn read_row(alloc: Global, tokens: &[Token], at: usize) -> Result<(Fields, usize
 /// Fields in braces.
 fn read_fields(alloc: Global, tokens: &[Token], at: usize) -> Result<(Fields, usize), Refused>
     requires { at ≤ length tokens.now }
-    ensures inside { IfOk result (λ x. x.1 ≤ length tokens.now) }
+    ensures reads { Reads P.fields.parse tokens.now at result }
     ensures moves { IfOk result (λ x. at + 1 ≤ x.1) }
 {
     let (_, at) = read_place(tokens, at, Class::Symbol(Symbol::OpenBrace))?;
@@ -96,7 +103,7 @@ fn read_fields(alloc: Global, tokens: &[Token], at: usize) -> Result<(Fields, us
 /// `record name { fields }`
 fn read_record(alloc: Global, tokens: &[Token], at: usize) -> Result<(RecordDecl, usize), Refused>
     requires { at ≤ length tokens.now }
-    ensures inside { IfOk result (λ x. x.1 ≤ length tokens.now) }
+    ensures reads { Reads P.record_decl.parse tokens.now at result }
     ensures moves { IfOk result (λ x. at + 1 ≤ x.1) }
 {
     let (place, at) = read_place(tokens, at, Class::Keyword(Keyword::Record))?;
@@ -115,7 +122,7 @@ fn read_record(alloc: Global, tokens: &[Token], at: usize) -> Result<(RecordDecl
 /// Whether an argument is a pointer.
 fn read_kind(tokens: &[Token], at: usize) -> Result<(bool, usize), Refused>
     requires { at ≤ length tokens.now }
-    ensures inside { IfOk result (λ x. x.1 ≤ length tokens.now) }
+    ensures reads { Reads P.arg_kind.parse tokens.now at result }
     ensures moves { IfOk result (λ x. at + 1 ≤ x.1) }
 {
     if stands(tokens, at, Class::Keyword(Keyword::Int)) {
@@ -130,7 +137,7 @@ fn read_kind(tokens: &[Token], at: usize) -> Result<(bool, usize), Refused>
 /// One argument.
 fn read_arg(tokens: &[Token], at: usize) -> Result<(Arg, usize), Refused>
     requires { at ≤ length tokens.now }
-    ensures inside { IfOk result (λ x. x.1 ≤ length tokens.now) }
+    ensures reads { Reads P.arg.parse tokens.now at result }
     ensures moves { IfOk result (λ x. at + 1 ≤ x.1) }
 {
     let (name, at) = read_word(tokens, at)?;
@@ -139,32 +146,61 @@ fn read_arg(tokens: &[Token], at: usize) -> Result<(Arg, usize), Refused>
     Ok((Arg { name, pointer }, at))
 }
 
-/// Arguments with commas between them, or none.
-fn read_row_of_args(alloc: Global, tokens: &[Token], at: usize) -> Result<(Args, usize), Refused>
+/// A comma and one argument.
+fn read_more_arg(tokens: &[Token], at: usize) -> Result<(Arg, usize), Refused>
     requires { at ≤ length tokens.now }
-    ensures inside { IfOk result (λ x. x.1 ≤ length tokens.now) }
+    ensures reads { Reads P.more_arg.parse tokens.now at result }
+    ensures moves { IfOk result (λ x. at + 1 ≤ x.1) }
+{
+    let (_, at) = read_place(tokens, at, Class::Symbol(Symbol::Comma))?;
+    let (arg, at) = read_arg(tokens, at)?;
+    Ok((arg, at))
+}
+
+/// The arguments from a first one on, each other with a comma before it.
+fn read_args_from(
+    alloc: Global,
+    tokens: &[Token],
+    at: usize,
+    first: Arg,
+) -> Result<(Args, usize), Refused>
+    requires { at ≤ length tokens.now }
+    ensures reads { Reads (args_rest first) tokens.now at result }
     ensures moves { IfOk result (λ x. at ≤ x.1) }
 {
     let mut found = Listed::new(alloc);
-    if !stands(tokens, at, Class::Name) {
-        return Ok((found, at));
-    }
-    let (first, next) = read_arg(tokens, at)?;
     put(&mut found, first)?;
-    let mut at = next;
+    let mut at = at;
     'row: while stands(tokens, at, Class::Symbol(Symbol::Comma)) {
-        let (_, next) = read_place(tokens, at, Class::Symbol(Symbol::Comma))?;
-        let (arg, next) = read_arg(tokens, next)?;
-        put(&mut found, arg)?;
-        at = next;
+        match read_more_arg(tokens, at) {
+            Ok((arg, next)) => {
+                put(&mut found, arg)?;
+                at = next;
+            }
+            Err(refused) => return Err(refused),
+        }
     }
     Ok((found, at))
+}
+
+/// Arguments with commas between them, or none.
+fn read_row_of_args(alloc: Global, tokens: &[Token], at: usize) -> Result<(Args, usize), Refused>
+    requires { at ≤ length tokens.now }
+    ensures reads { Reads P.row_of_args.parse tokens.now at result }
+    ensures moves { IfOk result (λ x. at ≤ x.1) }
+{
+    if stands(tokens, at, Class::Name) {
+        let (first, at) = read_arg(tokens, at)?;
+        read_args_from(alloc, tokens, at, first)
+    } else {
+        Ok((Listed::new(alloc), at))
+    }
 }
 
 /// Arguments in parentheses.
 fn read_args(alloc: Global, tokens: &[Token], at: usize) -> Result<(Args, usize), Refused>
     requires { at ≤ length tokens.now }
-    ensures inside { IfOk result (λ x. x.1 ≤ length tokens.now) }
+    ensures reads { Reads P.args.parse tokens.now at result }
     ensures moves { IfOk result (λ x. at + 1 ≤ x.1) }
 {
     let (_, at) = read_place(tokens, at, Class::Symbol(Symbol::OpenRound))?;
@@ -181,7 +217,7 @@ fn read_iter(
     depth: usize,
 ) -> Result<(Iter, usize), Refused>
     requires { at ≤ length tokens.now }
-    ensures inside { IfOk result (λ x. x.1 ≤ length tokens.now) }
+    ensures reads { Reads (P.iter_over (P.block depth)).parse tokens.now at result }
     ensures moves { IfOk result (λ x. at + 1 ≤ x.1) }
 {
     let (place, at) = read_place(tokens, at, Class::Keyword(Keyword::Iter))?;
@@ -212,13 +248,31 @@ fn read_iter(
     Ok((found, at))
 }
 
+fn begins_decl(kind: &TokenKind) -> bool
+    ensures { result ≡ P.kind_begins_decl kind.now }
+{
+    match kind {
+        TokenKind::Keyword(keyword) => keyword_begins_decl(*keyword),
+        _ => false,
+    }
+}
+
+fn keyword_begins_decl(keyword: Keyword) -> bool
+    ensures { result ≡ P.keyword_begins_decl keyword }
+{
+    match keyword {
+        Keyword::Record | Keyword::Iter => true,
+        _ => false,
+    }
+}
+
 /// Whether a record or an iterator may begin with the token at a place.
 fn decl_stands(tokens: &[Token], at: usize) -> bool
     requires { at ≤ length tokens.now }
-    ensures { IsTrue result → at < length tokens.now }
+    ensures first { result ≡ at_first P.begins_decl (drop at tokens.now) }
+    ensures inside { IsTrue result → at < length tokens.now }
 {
-    stands(tokens, at, Class::Keyword(Keyword::Record))
-        || stands(tokens, at, Class::Keyword(Keyword::Iter))
+    at < tokens.len() && begins_decl(&tokens[at].kind)
 }
 
 /// Records and iterators as long as one begins; `depth` bounds their nesting.
@@ -229,7 +283,7 @@ pub(crate) fn read_program(
     depth: usize,
 ) -> Result<(Program, usize), Refused>
     requires { at ≤ length tokens.now }
-    ensures inside { IfOk result (λ x. x.1 ≤ length tokens.now) }
+    ensures reads { Reads (P.program depth).parse tokens.now at result }
     ensures moves { IfOk result (λ x. at ≤ x.1) }
 {
     let mut records = Listed::new(alloc);
@@ -237,13 +291,21 @@ pub(crate) fn read_program(
     let mut at = at;
     'row: while decl_stands(tokens, at) {
         if stands(tokens, at, Class::Keyword(Keyword::Record)) {
-            let (record, next) = read_record(alloc, tokens, at)?;
-            put(&mut records, record)?;
-            at = next;
+            match read_record(alloc, tokens, at) {
+                Ok((record, next)) => {
+                    put(&mut records, record)?;
+                    at = next;
+                }
+                Err(refused) => return Err(refused),
+            }
         } else {
-            let (iter, next) = read_iter(alloc, tokens, at, depth)?;
-            put(&mut iters, iter)?;
-            at = next;
+            match read_iter(alloc, tokens, at, depth) {
+                Ok((iter, next)) => {
+                    put(&mut iters, iter)?;
+                    at = next;
+                }
+                Err(refused) => return Err(refused),
+            }
         }
     }
     Ok((Program { records, iters }, at))

@@ -1,6 +1,10 @@
 // Expressions: the binary levels, unary operators, and what stands between them.
 
-ghost use Rattle.std.specs.Prelude.{◌≡◌, ◌≤◌, ◌<◌, ◌+◌, length, IsTrue, IfOk};
+ghost use Rattle.std.specs.Prelude.{◌≡◌, ◌≤◌, ◌<◌, ◌+◌, ◌-◌, drop, length, IsTrue, IfOk, IfErr};
+ghost use Rattle.iter_syntax.specs.Kinds.{symbol_operator as operator_of, kind_operator, is_operator};
+ghost use Rattle.iter_syntax.specs.Form.{at_first, maybe};
+ghost use Rattle.iter_syntax.specs.Productions as P;
+ghost use Rattle.iter_syntax.specs.Reads.{Reads, comparison_rest, chain_rest};
 
 use super::reader::{Class, Refused, boxed, read_number, read_place, read_word, stands};
 use crate::token::{Keyword, Symbol, Token, TokenKind};
@@ -15,14 +19,18 @@ const LOOSEST: usize = 7;
 const COMPARISON: usize = 5;
 
 /// The operator that a token is, with its level, from 1, the tightest.
-fn operator(kind: &TokenKind) -> Option<(usize, BinaryOp)> {
+fn operator(kind: &TokenKind) -> Option<(usize, BinaryOp)>
+    ensures { result ≡ kind_operator kind.now }
+{
     match kind {
         TokenKind::Symbol(symbol) => symbol_operator(*symbol),
         _ => None,
     }
 }
 
-fn symbol_operator(symbol: Symbol) -> Option<(usize, BinaryOp)> {
+fn symbol_operator(symbol: Symbol) -> Option<(usize, BinaryOp)>
+    ensures { result ≡ operator_of symbol }
+{
     match symbol {
         Symbol::Star => Some((1, BinaryOp::Mul)),
         Symbol::Slash => Some((1, BinaryOp::Div)),
@@ -49,7 +57,8 @@ fn symbol_operator(symbol: Symbol) -> Option<(usize, BinaryOp)> {
 /// Whether an operator of this level stands at a place.
 fn operator_stands(tokens: &[Token], at: usize, level: usize) -> bool
     requires { at ≤ length tokens.now }
-    ensures { IsTrue result → at < length tokens.now }
+    ensures first { result ≡ at_first (is_operator level) (drop at tokens.now) }
+    ensures inside { IsTrue result → at < length tokens.now }
 {
     at < tokens.len()
         && match operator(&tokens[at].kind) {
@@ -65,7 +74,7 @@ fn read_operator(
     level: usize,
 ) -> Result<((Place, BinaryOp), usize), Refused>
     requires { at ≤ length tokens.now }
-    ensures inside { IfOk result (λ x. x.1 ≤ length tokens.now) }
+    ensures reads { Reads (P.operator level).parse tokens.now at result }
     ensures moves { IfOk result (λ x. x.1 ≡ at + 1) }
 {
     if at >= tokens.len() {
@@ -88,7 +97,10 @@ fn binary(
     operator: (Place, BinaryOp),
     left: Expr,
     right: Expr,
-) -> Result<Expr, Refused> {
+) -> Result<Expr, Refused>
+    ensures whole { IfOk result (λ e. e ≡ Expr.Binary operator.0 operator.1 left right) }
+    ensures cause { IfErr result (λ e. e ≡ Refused.Memory) }
+{
     let (op_place, op) = operator;
     let left = boxed(alloc, left)?;
     let right = boxed(alloc, right)?;
@@ -108,7 +120,7 @@ pub(crate) fn read_expr(
     depth: usize,
 ) -> Result<(Expr, usize), Refused>
     requires { at ≤ length tokens.now }
-    ensures inside { IfOk result (λ x. x.1 ≤ length tokens.now) }
+    ensures reads { Reads (P.expr depth).parse tokens.now at result }
     ensures moves { IfOk result (λ x. at + 1 ≤ x.1) }
 {
     read_level(alloc, tokens, at, LOOSEST, depth)
@@ -124,17 +136,21 @@ fn read_level(
     depth: usize,
 ) -> Result<(Expr, usize), Refused>
     requires { at ≤ length tokens.now }
-    ensures inside { IfOk result (λ x. x.1 ≤ length tokens.now) }
+    ensures reads { Reads (P.level level (P.unary depth)).parse tokens.now at result }
     ensures moves { IfOk result (λ x. at + 1 ≤ x.1) }
 {
     if level == 0 {
         return read_unary(alloc, tokens, at, depth);
     }
-    let (first, at) = read_level(alloc, tokens, at, level - 1, depth)?;
-    if level == COMPARISON {
-        read_comparison(alloc, tokens, at, first, depth)
-    } else {
-        read_row(alloc, tokens, at, first, level, depth)
+    match read_level(alloc, tokens, at, level - 1, depth) {
+        Ok((first, at)) => {
+            if level == COMPARISON {
+                read_comparison(alloc, tokens, at, first, depth)
+            } else {
+                read_row(alloc, tokens, at, first, level, depth)
+            }
+        }
+        Err(refused) => Err(refused),
     }
 }
 
@@ -148,7 +164,7 @@ fn read_comparison(
     depth: usize,
 ) -> Result<(Expr, usize), Refused>
     requires { at ≤ length tokens.now }
-    ensures inside { IfOk result (λ x. x.1 ≤ length tokens.now) }
+    ensures reads { Reads (comparison_rest first (P.level 4 (P.unary depth))) tokens.now at result }
     ensures moves { IfOk result (λ x. at ≤ x.1) }
 {
     if operator_stands(tokens, at, COMPARISON) {
@@ -173,7 +189,7 @@ fn read_row(
 ) -> Result<(Expr, usize), Refused>
     requires at { at ≤ length tokens.now }
     requires level { 1 ≤ level }
-    ensures inside { IfOk result (λ x. x.1 ≤ length tokens.now) }
+    ensures reads { Reads (chain_rest level first (P.level (level - 1) (P.unary depth))) tokens.now at result }
     ensures moves { IfOk result (λ x. at ≤ x.1) }
 {
     let mut left = first;
@@ -191,7 +207,7 @@ fn read_row(
     Ok((left, at))
 }
 
-/// A unary expression.
+/// A unary expression of at most this depth.
 #[cycle(expr)]
 fn read_unary(
     alloc: Global,
@@ -200,24 +216,39 @@ fn read_unary(
     depth: usize,
 ) -> Result<(Expr, usize), Refused>
     requires { at ≤ length tokens.now }
-    ensures inside { IfOk result (λ x. x.1 ≤ length tokens.now) }
+    ensures reads { Reads (P.unary depth).parse tokens.now at result }
     ensures moves { IfOk result (λ x. at + 1 ≤ x.1) }
 {
     if depth == 0 {
         return Err(Refused::At(at));
     }
+    read_operand(alloc, tokens, at, depth - 1)
+}
+
+/// A unary expression whose parts have at most this depth.
+#[cycle(expr)]
+fn read_operand(
+    alloc: Global,
+    tokens: &[Token],
+    at: usize,
+    depth: usize,
+) -> Result<(Expr, usize), Refused>
+    requires { at ≤ length tokens.now }
+    ensures reads { Reads (P.unary_over (P.unary depth)).parse tokens.now at result }
+    ensures moves { IfOk result (λ x. at + 1 ≤ x.1) }
+{
     if stands(tokens, at, Class::Symbol(Symbol::Bang)) {
         let (place, at) = read_place(tokens, at, Class::Symbol(Symbol::Bang))?;
-        let (of, at) = read_unary(alloc, tokens, at, depth - 1)?;
+        let (of, at) = read_unary(alloc, tokens, at, depth)?;
         let of = boxed(alloc, of)?;
         Ok((Expr::Not { place, of }, at))
     } else if stands(tokens, at, Class::Symbol(Symbol::Tilde)) {
         let (place, at) = read_place(tokens, at, Class::Symbol(Symbol::Tilde))?;
-        let (of, at) = read_unary(alloc, tokens, at, depth - 1)?;
+        let (of, at) = read_unary(alloc, tokens, at, depth)?;
         let of = boxed(alloc, of)?;
         Ok((Expr::Flip { place, of }, at))
     } else {
-        read_atom(alloc, tokens, at, depth - 1)
+        read_atom(alloc, tokens, at, depth)
     }
 }
 
@@ -229,7 +260,7 @@ fn read_atom(
     depth: usize,
 ) -> Result<(Expr, usize), Refused>
     requires { at ≤ length tokens.now }
-    ensures inside { IfOk result (λ x. x.1 ≤ length tokens.now) }
+    ensures reads { Reads (P.atom_over (P.expr depth)).parse tokens.now at result }
     ensures moves { IfOk result (λ x. at + 1 ≤ x.1) }
 {
     if stands(tokens, at, Class::Number) {
@@ -264,7 +295,7 @@ fn read_cur(
     depth: usize,
 ) -> Result<(Expr, usize), Refused>
     requires { at ≤ length tokens.now }
-    ensures inside { IfOk result (λ x. x.1 ≤ length tokens.now) }
+    ensures reads { Reads (P.cur_over (P.expr depth)).parse tokens.now at result }
     ensures moves { IfOk result (λ x. at + 1 ≤ x.1) }
 {
     let (place, at) = read_place(tokens, at, Class::Keyword(Keyword::Cur))?;
@@ -286,7 +317,7 @@ fn read_pad(
     depth: usize,
 ) -> Result<(Expr, usize), Refused>
     requires { at ≤ length tokens.now }
-    ensures inside { IfOk result (λ x. x.1 ≤ length tokens.now) }
+    ensures reads { Reads (P.pad_over (P.expr depth)).parse tokens.now at result }
     ensures moves { IfOk result (λ x. at + 1 ≤ x.1) }
 {
     let (place, at) = read_place(tokens, at, Class::Keyword(Keyword::Pad))?;
@@ -304,7 +335,7 @@ fn read_sum(
     depth: usize,
 ) -> Result<(Expr, usize), Refused>
     requires { at ≤ length tokens.now }
-    ensures inside { IfOk result (λ x. x.1 ≤ length tokens.now) }
+    ensures reads { Reads (P.at_over (P.expr depth)).parse tokens.now at result }
     ensures moves { IfOk result (λ x. at + 1 ≤ x.1) }
 {
     let (place, at) = read_place(tokens, at, Class::Keyword(Keyword::At))?;
@@ -334,7 +365,7 @@ pub(crate) fn read_use(
     depth: usize,
 ) -> Result<(FieldUse, usize), Refused>
     requires { at ≤ length tokens.now }
-    ensures inside { IfOk result (λ x. x.1 ≤ length tokens.now) }
+    ensures reads { Reads (P.field_use depth).parse tokens.now at result }
     ensures moves { IfOk result (λ x. at + 1 ≤ x.1) }
 {
     let (name, at) = read_word(tokens, at)?;
@@ -351,7 +382,7 @@ fn read_index(
     depth: usize,
 ) -> Result<(Option<Boxed<Expr>>, usize), Refused>
     requires { at ≤ length tokens.now }
-    ensures inside { IfOk result (λ x. x.1 ≤ length tokens.now) }
+    ensures reads { Reads (maybe (P.brackets Symbol.OpenSquare (P.expr depth) Symbol.CloseSquare)).parse tokens.now at result }
     ensures moves { IfOk result (λ x. at ≤ x.1) }
 {
     if stands(tokens, at, Class::Symbol(Symbol::OpenSquare)) {

@@ -1,6 +1,10 @@
 // One token at a place of the list: whether it stands there, and what it gives.
 
-ghost use Rattle.std.specs.Prelude.{◌≡◌, ◌≤◌, ◌<◌, ◌+◌, length, IsTrue, IfOk};
+ghost use Rattle.std.specs.Prelude.{◌≡◌, ◌≤◌, ◌<◌, ◌+◌, [], ◌∷◌, ◌++◌, drop, length, nat_eq, IsTrue, IfOk, IfErr, OnOk};
+ghost use Rattle.iter_syntax.specs.Kinds.{keyword_number, symbol_number, is_next_text};
+ghost use Rattle.iter_syntax.specs.Form.{at_first};
+ghost use Rattle.iter_syntax.specs.Productions.{word, number};
+ghost use Rattle.iter_syntax.specs.Reads.{Reads, in_class, of_class};
 
 use crate::token::{Keyword, Symbol, Token, TokenKind};
 use crate::tree::{Expr, Place, Word};
@@ -27,17 +31,33 @@ pub(crate) enum Refused {
     Memory,
 }
 
-fn is_next(text: &[u8]) -> bool {
+fn is_next(text: &[u8]) -> bool
+    ensures { result ≡ is_next_text text.now }
+{
     text.len() == 4 && text[0] == b'n' && text[1] == b'e' && text[2] == b'x' && text[3] == b't'
 }
 
-fn is_in(token: &Token, class: Class) -> bool {
+fn same_keyword(wanted: Keyword, found: Keyword) -> bool
+    ensures { result ≡ nat_eq (keyword_number wanted) (keyword_number found) }
+{
+    wanted == found
+}
+
+fn same_symbol(wanted: Symbol, found: Symbol) -> bool
+    ensures { result ≡ nat_eq (symbol_number wanted) (symbol_number found) }
+{
+    wanted == found
+}
+
+fn is_in(token: &Token, class: Class) -> bool
+    ensures { result ≡ in_class class token.now }
+{
     match (&token.kind, class) {
         (TokenKind::Name(_), Class::Name) => true,
         (TokenKind::Name(text), Class::Next) => is_next(text.as_slice()),
         (TokenKind::Number(_), Class::Number) => true,
-        (TokenKind::Keyword(found), Class::Keyword(wanted)) => *found == wanted,
-        (TokenKind::Symbol(found), Class::Symbol(wanted)) => *found == wanted,
+        (TokenKind::Keyword(found), Class::Keyword(wanted)) => same_keyword(wanted, *found),
+        (TokenKind::Symbol(found), Class::Symbol(wanted)) => same_symbol(wanted, *found),
         _ => false,
     }
 }
@@ -45,7 +65,8 @@ fn is_in(token: &Token, class: Class) -> bool {
 /// Whether a token of this class stands at a place.
 pub(crate) fn stands(tokens: &[Token], at: usize, class: Class) -> bool
     requires { at ≤ length tokens.now }
-    ensures { IsTrue result → at < length tokens.now }
+    ensures first { result ≡ at_first (in_class class) (drop at tokens.now) }
+    ensures inside { IsTrue result → at < length tokens.now }
 {
     at < tokens.len() && is_in(&tokens[at], class)
 }
@@ -57,7 +78,7 @@ pub(crate) fn read_place(
     class: Class,
 ) -> Result<(Place, usize), Refused>
     requires { at ≤ length tokens.now }
-    ensures inside { IfOk result (λ x. x.1 ≤ length tokens.now) }
+    ensures reads { Reads (of_class class).parse tokens.now at result }
     ensures moves { IfOk result (λ x. x.1 ≡ at + 1) }
 {
     if stands(tokens, at, class) {
@@ -69,17 +90,16 @@ pub(crate) fn read_place(
 
 fn copied(text: &[u8]) -> ArrayVec<u8, 32>
     requires { length text.now ≤ 32 }
+    ensures { result.items ≡ text.now }
 {
     let mut copy = ArrayVec::new();
-    for byte in text {
-        let _full = copy.try_push(*byte);
-    }
+    let _full = copy.try_extend_from_slice(text);
     copy
 }
 
 pub(crate) fn read_word(tokens: &[Token], at: usize) -> Result<(Word, usize), Refused>
     requires { at ≤ length tokens.now }
-    ensures inside { IfOk result (λ x. x.1 ≤ length tokens.now) }
+    ensures reads { Reads word.parse tokens.now at result }
     ensures moves { IfOk result (λ x. x.1 ≡ at + 1) }
 {
     if at >= tokens.len() {
@@ -104,7 +124,7 @@ pub(crate) fn read_word(tokens: &[Token], at: usize) -> Result<(Word, usize), Re
 /// The place and the value of a number.
 pub(crate) fn read_number(tokens: &[Token], at: usize) -> Result<((Place, u64), usize), Refused>
     requires { at ≤ length tokens.now }
-    ensures inside { IfOk result (λ x. x.1 ≤ length tokens.now) }
+    ensures reads { Reads number.parse tokens.now at result }
     ensures moves { IfOk result (λ x. x.1 ≡ at + 1) }
 {
     if at >= tokens.len() {
@@ -117,14 +137,20 @@ pub(crate) fn read_number(tokens: &[Token], at: usize) -> Result<((Place, u64), 
     }
 }
 
-pub(crate) fn put<T: Drop>(list: &mut Listed<T>, item: T) -> Result<(), Refused> {
+pub(crate) fn put<T: Drop>(list: &mut Listed<T>, item: T) -> Result<(), Refused>
+    ensures pushed { OnOk result (list.new ≡ list.old ++ item ∷ []) }
+    ensures cause { IfErr result (λ e. e ≡ Refused.Memory) }
+{
     match list.push(item) {
         Ok(()) => Ok(()),
         Err(_) => Err(Refused::Memory),
     }
 }
 
-pub(crate) fn boxed(alloc: Global, of: Expr) -> Result<Boxed<Expr>, Refused> {
+pub(crate) fn boxed(alloc: Global, of: Expr) -> Result<Boxed<Expr>, Refused>
+    ensures same { IfOk result (λ b. b ≡ of) }
+    ensures cause { IfErr result (λ e. e ≡ Refused.Memory) }
+{
     match Boxed::new(alloc, of) {
         Ok(of) => Ok(of),
         Err(_) => Err(Refused::Memory),

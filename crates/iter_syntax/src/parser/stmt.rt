@@ -1,27 +1,49 @@
 // Blocks and statements.
 
-ghost use Rattle.std.specs.Prelude.{◌≡◌, ◌≤◌, ◌<◌, ◌+◌, length, IsTrue, IfOk};
+ghost use Rattle.std.specs.Prelude.{◌≡◌, ◌≤◌, ◌<◌, ◌+◌, drop, length, IsTrue, IfOk};
+ghost use Rattle.iter_syntax.specs.Form.{at_first, any};
+ghost use Rattle.iter_syntax.specs.Productions as P;
+ghost use Rattle.iter_syntax.specs.Reads.{Reads};
 
 use super::expr::{read_expr, read_use};
 use super::reader::{Class, Refused, put, read_number, read_place, read_word, stands};
-use crate::token::{Keyword, Symbol, Token};
+use crate::token::{Keyword, Symbol, Token, TokenKind};
 use crate::tree::{Block, Stmt, Stmts};
 use pulse_base::Listed;
 use std::alloc::Global;
 
+fn begins_stmt(kind: &TokenKind) -> bool
+    ensures { result ≡ P.kind_begins_stmt kind.now }
+{
+    match kind {
+        TokenKind::Name(_) => true,
+        TokenKind::Keyword(keyword) => keyword_begins_stmt(*keyword),
+        _ => false,
+    }
+}
+
+fn keyword_begins_stmt(keyword: Keyword) -> bool
+    ensures { result ≡ P.keyword_begins_stmt keyword }
+{
+    match keyword {
+        Keyword::Let
+        | Keyword::Pad
+        | Keyword::Cur
+        | Keyword::If
+        | Keyword::For
+        | Keyword::Done
+        | Keyword::Go => true,
+        _ => false,
+    }
+}
+
 /// Whether a statement may begin with the token at a place.
 fn stmt_stands(tokens: &[Token], at: usize) -> bool
     requires { at ≤ length tokens.now }
-    ensures { IsTrue result → at < length tokens.now }
+    ensures first { result ≡ at_first P.begins_stmt (drop at tokens.now) }
+    ensures inside { IsTrue result → at < length tokens.now }
 {
-    stands(tokens, at, Class::Name)
-        || stands(tokens, at, Class::Keyword(Keyword::Let))
-        || stands(tokens, at, Class::Keyword(Keyword::Pad))
-        || stands(tokens, at, Class::Keyword(Keyword::Cur))
-        || stands(tokens, at, Class::Keyword(Keyword::If))
-        || stands(tokens, at, Class::Keyword(Keyword::For))
-        || stands(tokens, at, Class::Keyword(Keyword::Done))
-        || stands(tokens, at, Class::Keyword(Keyword::Go))
+    at < tokens.len() && begins_stmt(&tokens[at].kind)
 }
 
 /// A block; `depth` bounds the nesting of blocks and of each expression.
@@ -33,14 +55,29 @@ pub(crate) fn read_block(
     depth: usize,
 ) -> Result<(Block, usize), Refused>
     requires { at ≤ length tokens.now }
-    ensures inside { IfOk result (λ x. x.1 ≤ length tokens.now) }
+    ensures reads { Reads (P.block depth).parse tokens.now at result }
     ensures moves { IfOk result (λ x. at + 1 ≤ x.1) }
 {
     if depth == 0 {
         return Err(Refused::At(at));
     }
+    read_braces(alloc, tokens, at, depth - 1)
+}
+
+/// A block whose parts have at most this depth.
+#[cycle(stmt)]
+fn read_braces(
+    alloc: Global,
+    tokens: &[Token],
+    at: usize,
+    depth: usize,
+) -> Result<(Block, usize), Refused>
+    requires { at ≤ length tokens.now }
+    ensures reads { Reads (P.block_over (P.expr depth) (P.block depth)).parse tokens.now at result }
+    ensures moves { IfOk result (λ x. at + 1 ≤ x.1) }
+{
     let (place, at) = read_place(tokens, at, Class::Symbol(Symbol::OpenBrace))?;
-    let (stmts, at) = read_stmts(alloc, tokens, at, depth - 1)?;
+    let (stmts, at) = read_stmts(alloc, tokens, at, depth)?;
     let (close, at) = read_place(tokens, at, Class::Symbol(Symbol::CloseBrace))?;
     Ok((
         Block {
@@ -61,7 +98,7 @@ fn read_stmts(
     depth: usize,
 ) -> Result<(Stmts, usize), Refused>
     requires { at ≤ length tokens.now }
-    ensures inside { IfOk result (λ x. x.1 ≤ length tokens.now) }
+    ensures reads { Reads (any (P.stmt depth)).parse tokens.now at result }
     ensures moves { IfOk result (λ x. at ≤ x.1) }
 {
     let mut found = Listed::new(alloc);
@@ -87,7 +124,7 @@ fn read_stmt(
     depth: usize,
 ) -> Result<(Stmt, usize), Refused>
     requires { at ≤ length tokens.now }
-    ensures inside { IfOk result (λ x. x.1 ≤ length tokens.now) }
+    ensures reads { Reads (P.stmt depth).parse tokens.now at result }
     ensures moves { IfOk result (λ x. at + 1 ≤ x.1) }
 {
     if stands(tokens, at, Class::Keyword(Keyword::Let)) {
@@ -117,7 +154,7 @@ fn read_let(
     depth: usize,
 ) -> Result<(Stmt, usize), Refused>
     requires { at ≤ length tokens.now }
-    ensures inside { IfOk result (λ x. x.1 ≤ length tokens.now) }
+    ensures reads { Reads (P.let_over (P.expr depth)).parse tokens.now at result }
     ensures moves { IfOk result (λ x. at + 1 ≤ x.1) }
 {
     let (place, at) = read_place(tokens, at, Class::Keyword(Keyword::Let))?;
@@ -136,7 +173,7 @@ fn read_set(
     depth: usize,
 ) -> Result<(Stmt, usize), Refused>
     requires { at ≤ length tokens.now }
-    ensures inside { IfOk result (λ x. x.1 ≤ length tokens.now) }
+    ensures reads { Reads (P.set_over (P.expr depth)).parse tokens.now at result }
     ensures moves { IfOk result (λ x. at + 1 ≤ x.1) }
 {
     let (name, at) = read_word(tokens, at)?;
@@ -155,7 +192,7 @@ fn read_set_pad(
     depth: usize,
 ) -> Result<(Stmt, usize), Refused>
     requires { at ≤ length tokens.now }
-    ensures inside { IfOk result (λ x. x.1 ≤ length tokens.now) }
+    ensures reads { Reads (P.set_pad_over (P.expr depth)).parse tokens.now at result }
     ensures moves { IfOk result (λ x. at + 1 ≤ x.1) }
 {
     let (place, at) = read_place(tokens, at, Class::Keyword(Keyword::Pad))?;
@@ -182,7 +219,7 @@ fn read_set_cur(
     depth: usize,
 ) -> Result<(Stmt, usize), Refused>
     requires { at ≤ length tokens.now }
-    ensures inside { IfOk result (λ x. x.1 ≤ length tokens.now) }
+    ensures reads { Reads (P.set_cur_over (P.expr depth)).parse tokens.now at result }
     ensures moves { IfOk result (λ x. at + 1 ≤ x.1) }
 {
     let (place, at) = read_place(tokens, at, Class::Keyword(Keyword::Cur))?;
@@ -210,7 +247,7 @@ fn read_if(
     depth: usize,
 ) -> Result<(Stmt, usize), Refused>
     requires { at ≤ length tokens.now }
-    ensures inside { IfOk result (λ x. x.1 ≤ length tokens.now) }
+    ensures reads { Reads (P.if_over (P.expr depth) (P.block depth)).parse tokens.now at result }
     ensures moves { IfOk result (λ x. at + 1 ≤ x.1) }
 {
     let (place, at) = read_place(tokens, at, Class::Keyword(Keyword::If))?;
@@ -237,7 +274,7 @@ fn read_else(
     depth: usize,
 ) -> Result<(Option<Block>, usize), Refused>
     requires { at ≤ length tokens.now }
-    ensures inside { IfOk result (λ x. x.1 ≤ length tokens.now) }
+    ensures reads { Reads (P.else_over (P.block depth)).parse tokens.now at result }
     ensures moves { IfOk result (λ x. at ≤ x.1) }
 {
     if stands(tokens, at, Class::Keyword(Keyword::Else)) {
@@ -258,7 +295,7 @@ fn read_for(
     depth: usize,
 ) -> Result<(Stmt, usize), Refused>
     requires { at ≤ length tokens.now }
-    ensures inside { IfOk result (λ x. x.1 ≤ length tokens.now) }
+    ensures reads { Reads (P.for_over (P.block depth)).parse tokens.now at result }
     ensures moves { IfOk result (λ x. at + 1 ≤ x.1) }
 {
     let (place, at) = read_place(tokens, at, Class::Keyword(Keyword::For))?;
@@ -283,7 +320,7 @@ fn read_for(
 /// `done ;`
 fn read_done(tokens: &[Token], at: usize) -> Result<(Stmt, usize), Refused>
     requires { at ≤ length tokens.now }
-    ensures inside { IfOk result (λ x. x.1 ≤ length tokens.now) }
+    ensures reads { Reads P.done_stmt.parse tokens.now at result }
     ensures moves { IfOk result (λ x. at + 1 ≤ x.1) }
 {
     let (place, at) = read_place(tokens, at, Class::Keyword(Keyword::Done))?;
@@ -299,7 +336,7 @@ fn read_go(
     depth: usize,
 ) -> Result<(Stmt, usize), Refused>
     requires { at ≤ length tokens.now }
-    ensures inside { IfOk result (λ x. x.1 ≤ length tokens.now) }
+    ensures reads { Reads (P.go_over (P.expr depth)).parse tokens.now at result }
     ensures moves { IfOk result (λ x. at + 1 ≤ x.1) }
 {
     let (place, at) = read_place(tokens, at, Class::Keyword(Keyword::Go))?;

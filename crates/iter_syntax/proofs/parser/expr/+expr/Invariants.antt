@@ -1,4 +1,8 @@
-use Rattle.std.proofs.Common.{◌*◌, ◌+◌, ◌-◌, ◌≤◌, ◌≡◌, length}
+use Rattle.std.proofs.Common.{◌*◌, ◌+◌, ◌-◌, ◌≤◌, ◌≡◌, ℕ, List, drop, length}
+use Rattle.iter_syntax.specs.declared.token.Token.{Token}
+use Rattle.iter_syntax.specs.declared.tree.Expr.{Expr}
+use Rattle.iter_syntax.specs.Productions as P
+use Rattle.iter_syntax.specs.Reads.{chain_rest}
 use Rattle.iter_syntax.proofs.parser.expr.+expr.Given as goal
 
 abbrev pub decreases-read_unary : goal.decreases-read_unary
@@ -28,11 +32,20 @@ decreases-read_pad l = 30 * l.depth + 18
 abbrev pub decreases-read_sum : goal.decreases-read_sum
 decreases-read_sum l = 30 * l.depth + 18
 
+abbrev pub decreases-read_operand : goal.decreases-read_operand
+decreases-read_operand l = 30 * l.depth + 20
+
 abbrev pub decreases-read_atom : goal.decreases-read_atom
 decreases-read_atom l = 30 * l.depth + 19
 
+-- the row from `at` on, after `left`, is the row from `start` on, after `first`
+pub record Row (tokens : List Token) (start at level depth : ℕ) (first left : Expr) : Type 0 where
+  pub inside : at ≤ length tokens
+  pub moves : start ≤ at
+  pub row : chain_rest level first (P.level (level - 1) (P.unary depth)) (drop start tokens) ≡ chain_rest level left (P.level (level - 1) (P.unary depth)) (drop at tokens)
+
 abbrev pub invariant-read_row-row : goal.invariant-read_row-row
-invariant-read_row-row l = (l.fn.at ≤ l.at) × (l.at ≤ length l.tokens)
+invariant-read_row-row l = Row l.tokens l.fn.at l.at l.level l.depth l.fn.first l.left
 
 abbrev pub decreases-read_row-row : goal.decreases-read_row-row
 decreases-read_row-row l = length l.tokens - l.at

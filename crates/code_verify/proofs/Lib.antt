@@ -1,0 +1,4 @@
+pub mod Above
+pub mod Keeps
+pub mod NeverStuck
+pub mod Unbroken

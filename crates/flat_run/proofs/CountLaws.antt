@@ -1,0 +1,82 @@
+-- In a legal order each request counts its places.
+use Rattle.std.proofs.Common.{◌≡◌, ◌≢◌, ℕ, zero, suc, ◌+◌, Bool, true, false, ◌&&◌, nat_eq, nat_lt, List, [], ◌∷◌, set, is_some, cond, ◌==◌, Option, Some, None, if◌then◌else◌, refl, sym, ap, subst, ◌∙◌, arith}
+use Rattle.std.specs.Prelude.{slice_get}
+use Rattle.std.proofs.lemmas.Bool.{and_parts}
+use Rattle.std.proofs.lemmas.List.Recursion.{is_count_by}
+use Rattle.range_table.specs.declared.region.RegionSpan.{RegionSpan}
+use Rattle.range_table.specs.Memory.{Arrival, Here, NotReadable, Unmapped, arrive}
+use Rattle.iter_check.specs.Iteration.{Iterated, Done, Goes, Fault}
+use Rattle.flat_run.specs.declared.state.FlatRequest.{FlatRequest}
+use Rattle.flat_run.specs.declared.state.FlatRequest.TheVariants as request
+use Rattle.flat_run.specs.declared.state.FlatState.{FlatState}
+use Rattle.flat_run.specs.Walk.{Walk, record_size}
+use Rattle.flat_run.specs.Region.{spans}
+use Rattle.flat_run.specs.Step.{Turn, turn_at, turn_from, turn_of, can_step, iterates, settled, turned, flat_step}
+use Rattle.flat_run.specs.Run.{flat_run, is_legal}
+use Rattle.flat_run.specs.Laws.{CountLaw, turns_made, places_of}
+use Rattle.flat_run.proofs.RecordLaws.{get_same}
+use Rattle.flat_run.proofs.RunLaws.{others_stay}
+
+-- a turn is of a request that is there, and has its count
+pub record Stands (o : Option FlatRequest) (t : Turn) : Type 0 where
+  pub it : FlatRequest
+  pub is : o ≡ Some it
+  pub made : turns_made o ≡ t.count
+
+turn_at_counts : (w : Walk) (cur : ℕ) (pad : List ℕ) (n : ℕ) (a : Arrival) (t : Turn) → turn_at w cur pad n a ≡ Some t → n ≡ t.count
+turn_at_counts w cur pad n (Here i) t e = let q : t ≡ record { walk = w; region = i; cur = cur; pad = pad; count = n } = cc in sym (ap (λ (x : Turn). x.count) q)
+turn_at_counts w cur pad n NotReadable t e = absurd (cc)
+turn_at_counts w cur pad n Unmapped t e = absurd (cc)
+
+below_limit : (b : Bool) (w : Walk) (cur : ℕ) (pad : List ℕ) (n : ℕ) (a : Arrival) (t : Turn) → (if b then turn_at w cur pad n a else None) ≡ Some t → n ≡ t.count
+below_limit true w cur pad n a t e = turn_at_counts w cur pad n a t e
+below_limit false w cur pad n a t e = absurd (cc)
+
+turn_stands : (rs : List RegionSpan) (limit : ℕ) (w : Option Walk) (o : Option FlatRequest) (t : Turn) → turn_from rs limit w o ≡ Some t → Stands o t
+turn_stands rs limit (Some w) (Some (request.Ready cur pad n)) t e = record {
+  it = request.Ready cur pad n;
+  is = refl;
+  made = below_limit (nat_lt n limit) w cur pad n (arrive rs cur (record_size w)) t e;
+}
+turn_stands rs limit (Some w) (Some (request.Done pad n)) t e = absurd (cc)
+turn_stands rs limit (Some w) (Some (request.Fault k cur n)) t e = absurd (cc)
+turn_stands rs limit (Some w) None t e = absurd (cc)
+turn_stands rs limit None o t e = absurd (cc)
+
+settled_counts : (s : FlatState) (r : ℕ) (t : Turn) (x : Iterated) → Stands (slice_get s.requests r) t → turns_made (slice_get (settled s r t x).requests r) ≡ turns_made (slice_get s.requests r) + 1
+settled_counts s r t (Done bytes pad) h = ap turns_made (get_same s.requests r _ h.it h.is) ∙ ap (λ n. n + 1) (sym h.made)
+settled_counts s r t (Goes to bytes pad) h = ap turns_made (get_same s.requests r _ h.it h.is) ∙ ap (λ n. n + 1) (sym h.made)
+settled_counts s r t (Fault k) h = ap turns_made (get_same s.requests r _ h.it h.is) ∙ ap (λ n. n + 1) (sym h.made)
+
+stepped : (s : FlatState) (r : ℕ) (o : Option Turn) → is_some o ≡ true → ((t : Turn) → o ≡ Some t → Stands (slice_get s.requests r) t) → turns_made (slice_get (turned s r o).requests r) ≡ turns_made (slice_get s.requests r) + 1
+stepped s r None h f = absurd (cc)
+stepped s r (Some t) h f = settled_counts s r t (iterates s t) (f t refl)
+
+step_counts : (walks : List Walk) (limit : ℕ) (s : FlatState) (q r : ℕ) (b : Bool) → nat_eq q r ≡ b → can_step walks limit s q ≡ true → turns_made (slice_get (flat_step walks limit s q).requests r) ≡ turns_made (slice_get s.requests r) + (if b then 1 else 0)
+step_counts walks limit s q r true e h =
+    let same : q ≡ r = grind arith in
+    let own = stepped s q (turn_of walks limit s q) h (λ t f. turn_stands (spans s.regions) limit (slice_get walks q) (slice_get s.requests q) t f) in
+    subst (λ k. turns_made (slice_get (flat_step walks limit s q).requests k) ≡ turns_made (slice_get s.requests k) + 1) same own
+step_counts walks limit s q r false e h =
+    let other : r ≢ q = λ f. absurd (let g : q ≡ r = sym f in grind arith) in
+    ap turns_made (others_stay walks limit s q r other) ∙ omega arith
+
+abbrev places : ℕ → List ℕ → ℕ
+places r [] = 0
+places r (q ∷ order) = cond (q == r) (1 + places r order) (places r order)
+
+joined : (b : Bool) (after between before rest : ℕ) → after ≡ between + rest → between ≡ before + (if b then 1 else 0) → after ≡ before + cond b (1 + rest) rest
+joined true after between before rest e f = omega arith
+joined false after between before rest e f = omega arith
+
+counts : (walks : List Walk) (limit : ℕ) (s : FlatState) (order : List ℕ) (r : ℕ) → is_legal walks limit s order ≡ true → turns_made (slice_get (flat_run walks limit s order).requests r) ≡ turns_made (slice_get s.requests r) + places r order
+counts walks limit s [] r h = omega arith
+counts walks limit s (q ∷ order) r h =
+    let parts = and_parts (can_step walks limit s q) (is_legal walks limit (flat_step walks limit s q) order) h in
+    joined (q == r) _ (turns_made (slice_get (flat_step walks limit s q).requests r)) (turns_made (slice_get s.requests r)) (places r order)
+    (counts walks limit (flat_step walks limit s q) order r parts.1)
+    (step_counts walks limit s q r (q == r) refl parts.0)
+
+pub counts_are : CountLaw
+counts_are walks limit s order r h =
+    counts walks limit s order r h ∙ ap (λ n. turns_made (slice_get s.requests r) + n) (is_count_by (places r) (λ q. q == r) refl (λ x xs. refl) order)

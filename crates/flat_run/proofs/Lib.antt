@@ -1,0 +1,7 @@
+pub mod NamesLaws
+pub mod SlotLaws
+pub mod StsLaws
+pub mod RegionLaws
+pub mod RunLaws
+pub mod RecordLaws
+pub mod CountLaws

@@ -1,0 +1,10 @@
+pub mod Walk
+pub mod Request
+pub mod Region
+pub mod Step
+pub mod Run
+pub mod Due
+pub mod NamesView
+pub mod Slots
+pub mod Interpreter
+pub mod Laws

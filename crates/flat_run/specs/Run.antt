@@ -1,0 +1,17 @@
+-- A flat run: steps in the order of a list of request numbers.
+use Rattle.std.specs.Prelude.{ℕ, Bool, true, ◌&&◌, List, [], ◌∷◌, IsTrue}
+use Rattle.flat_run.specs.declared.state.FlatState.{FlatState}
+use Rattle.flat_run.specs.Walk.{Walk}
+use Rattle.flat_run.specs.Step.{can_step, flat_step}
+
+abbrev pub flat_run : List Walk → ℕ → FlatState → List ℕ → FlatState
+flat_run walks limit s [] = s
+flat_run walks limit s (r ∷ order) = flat_run walks limit (flat_step walks limit s r) order
+
+-- each request that the order names can step when its turn comes
+abbrev pub is_legal : List Walk → ℕ → FlatState → List ℕ → Bool
+is_legal walks limit s [] = true
+is_legal walks limit s (r ∷ order) = can_step walks limit s r && is_legal walks limit (flat_step walks limit s r) order
+
+abbrev pub Legal : List Walk → ℕ → FlatState → List ℕ → Type 0
+Legal walks limit s order = IsTrue (is_legal walks limit s order)

@@ -1,0 +1,137 @@
+-- Facts of sets of tokens, by trying each kind.
+use Rattle.std.specs.Prelude.{slice_get}
+use Rattle.std.proofs.Common.{◌≡◌, ℕ, zero, suc, List, [], ◌∷◌, Some, Bool, true, false, if◌then◌else◌, refl, sym, ap, ◌∙◌}
+use Rattle.arrayvec.specs.ArrayVec.{ArrayVec}
+use Rattle.iter_syntax.specs.declared.tree.Place.{Place}
+use Rattle.iter_syntax.specs.declared.token.Token.{Token}
+use Rattle.iter_syntax.specs.declared.token.TokenKind.{TokenKind}
+use Rattle.iter_syntax.specs.declared.token.TokenKind.TheVariants as K
+use Rattle.iter_syntax.specs.declared.token.Keyword.{Keyword}
+use Rattle.iter_syntax.specs.declared.token.Keyword.TheVariants as W
+use Rattle.iter_syntax.specs.declared.token.Symbol.{Symbol}
+use Rattle.iter_syntax.specs.declared.token.Symbol.TheVariants as S
+use Rattle.iter_syntax.specs.Kinds.{keyword_number, symbol_number}
+
+abbrev pub and : Bool → Bool → Bool
+and true b = b
+and false b = false
+
+abbrev pub no : Bool → Bool
+no true = false
+no false = true
+
+left : (a b : Bool) → and a b ≡ true → a ≡ true
+left true b h = refl
+left false b h = absurd (cc)
+
+right : (a b : Bool) → and a b ≡ true → b ≡ true
+right true b h = h
+right false b h = absurd (cc)
+
+abbrev pub keywords : List Keyword
+keywords = W.Record ∷ W.Iter ∷ W.On ∷ W.Pad ∷ W.Init ∷ W.End ∷ W.Let ∷ W.If ∷ W.Else ∷ W.For ∷ W.In ∷ W.Done ∷ W.Go ∷ W.Cur ∷ W.Null ∷ W.At ∷ W.Int ∷ W.Ptr ∷ W.U8 ∷ W.U16 ∷ W.U32 ∷ W.U64 ∷ []
+
+abbrev pub symbols : List Symbol
+symbols = S.Range ∷ S.EqualEqual ∷ S.NotEqual ∷ S.LessEqual ∷ S.GreaterEqual ∷ S.ShiftLeft ∷ S.ShiftRight ∷ S.AndAnd ∷ S.OrOr ∷ S.OpenBrace ∷ S.CloseBrace ∷ S.OpenRound ∷ S.CloseRound ∷ S.OpenSquare ∷ S.CloseSquare ∷ S.Colon ∷ S.Semicolon ∷ S.Comma ∷ S.Dot ∷ S.Assign ∷ S.Less ∷ S.Greater ∷ S.Plus ∷ S.Minus ∷ S.Star ∷ S.Slash ∷ S.Percent ∷ S.And ∷ S.Or ∷ S.Caret ∷ S.Bang ∷ S.Tilde ∷ []
+
+abbrev pub all_of : {A : Type 0} → (A → Bool) → List A → Bool
+all_of p [] = true
+all_of p (x ∷ xs) = and (p x) (all_of p xs)
+
+at_number : {A : Type 0} (p : A → Bool) (xs : List A) → all_of p xs ≡ true → (n : ℕ) (x : A) → slice_get xs n ≡ Some x → p x ≡ true
+at_number p [] h n x e = absurd (cc)
+at_number p (y ∷ xs) h zero x e = let q : y ≡ x = cc in ap p (sym q) ∙ left (p y) (all_of p xs) h
+at_number p (y ∷ xs) h (suc n) x e = at_number p xs (right (p y) (all_of p xs) h) n x e
+
+keyword_is : (k : Keyword) → slice_get keywords (keyword_number k) ≡ Some k
+keyword_is W.Record = refl
+keyword_is W.Iter = refl
+keyword_is W.On = refl
+keyword_is W.Pad = refl
+keyword_is W.Init = refl
+keyword_is W.End = refl
+keyword_is W.Let = refl
+keyword_is W.If = refl
+keyword_is W.Else = refl
+keyword_is W.For = refl
+keyword_is W.In = refl
+keyword_is W.Done = refl
+keyword_is W.Go = refl
+keyword_is W.Cur = refl
+keyword_is W.Null = refl
+keyword_is W.At = refl
+keyword_is W.Int = refl
+keyword_is W.Ptr = refl
+keyword_is W.U8 = refl
+keyword_is W.U16 = refl
+keyword_is W.U32 = refl
+keyword_is W.U64 = refl
+
+symbol_is : (s : Symbol) → slice_get symbols (symbol_number s) ≡ Some s
+symbol_is S.Range = refl
+symbol_is S.EqualEqual = refl
+symbol_is S.NotEqual = refl
+symbol_is S.LessEqual = refl
+symbol_is S.GreaterEqual = refl
+symbol_is S.ShiftLeft = refl
+symbol_is S.ShiftRight = refl
+symbol_is S.AndAnd = refl
+symbol_is S.OrOr = refl
+symbol_is S.OpenBrace = refl
+symbol_is S.CloseBrace = refl
+symbol_is S.OpenRound = refl
+symbol_is S.CloseRound = refl
+symbol_is S.OpenSquare = refl
+symbol_is S.CloseSquare = refl
+symbol_is S.Colon = refl
+symbol_is S.Semicolon = refl
+symbol_is S.Comma = refl
+symbol_is S.Dot = refl
+symbol_is S.Assign = refl
+symbol_is S.Less = refl
+symbol_is S.Greater = refl
+symbol_is S.Plus = refl
+symbol_is S.Minus = refl
+symbol_is S.Star = refl
+symbol_is S.Slash = refl
+symbol_is S.Percent = refl
+symbol_is S.And = refl
+symbol_is S.Or = refl
+symbol_is S.Caret = refl
+symbol_is S.Bang = refl
+symbol_is S.Tilde = refl
+
+-- a test holds at each kind
+abbrev pub Each : (TokenKind → Bool) → Type 0
+Each p =
+    ((w : ArrayVec ℕ) → p (K.Name w) ≡ true)
+    × ((n : ℕ) → p (K.Number n) ≡ true)
+    × (all_of (λ k. p (K.Keyword k)) keywords ≡ true)
+    × (all_of (λ s. p (K.Symbol s)) symbols ≡ true)
+
+each : (p : TokenKind → Bool) → Each p → (k : TokenKind) → p k ≡ true
+each p h (K.Name w) = h.0 w
+each p h (K.Number n) = h.1 n
+each p h (K.Keyword k) = at_number (λ k. p (K.Keyword k)) keywords h.2 (keyword_number k) k (keyword_is k)
+each p h (K.Symbol s) = at_number (λ s. p (K.Symbol s)) symbols h.3 (symbol_number s) s (symbol_is s)
+
+abbrev pub tok : Place → TokenKind → Token
+tok p k = record { place = p; kind = k }
+
+not_both : (a b : Bool) → no (and a b) ≡ true → a ≡ true → b ≡ false
+not_both true true h e = absurd (cc)
+not_both true false h e = refl
+not_both false b h e = absurd (cc)
+
+-- no token is in both sets
+pub apart : (a b : Token → Bool) → ((p : Place) → Each (λ k. no (and (a (tok p k)) (b (tok p k))))) → (t : Token) → a t ≡ true → b t ≡ false
+apart a b h t e = not_both (a t) (b t) (each (λ k. no (and (a (tok t.place k)) (b (tok t.place k)))) (h t.place) t.kind) e
+
+not_alone : (a b : Bool) → no (and a (no b)) ≡ true → a ≡ true → b ≡ true
+not_alone true true h e = refl
+not_alone true false h e = absurd (cc)
+not_alone false b h e = absurd (cc)
+
+-- each token of one set is in the other
+pub part : (a b : Token → Bool) → ((p : Place) → Each (λ k. no (and (a (tok p k)) (no (b (tok p k)))))) → (t : Token) → a t ≡ true → b t ≡ true
+part a b h t e = not_alone (a t) (b t) (each (λ k. no (and (a (tok t.place k)) (no (b (tok t.place k))))) (h t.place) t.kind) e

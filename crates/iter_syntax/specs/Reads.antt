@@ -1,0 +1,51 @@
+-- What a reading function answers at a place of the tokens, by the parser of its form.
+use Rattle.std.specs.Prelude.{◌≡◌, ◌≤◌, ℕ, Bool, List, [], ◌∷◌, ◌++◌, length, drop, Result, Ok, Err}
+use Rattle.iter_syntax.specs.declared.token.Token.{Token}
+use Rattle.iter_syntax.specs.declared.parser.reader.Refused.{Refused}
+use Rattle.iter_syntax.specs.declared.parser.reader.Refused.TheVariants.{At, Memory}
+use Rattle.iter_syntax.specs.declared.parser.reader.Class.{Class}
+use Rattle.iter_syntax.specs.declared.parser.reader.Class.TheVariants as C
+use Rattle.iter_syntax.specs.Kinds.{is_name, is_next, is_number, is_keyword, is_symbol}
+use Rattle.iter_syntax.specs.Form.{Form, Parser, Reading, Read, Stuck, bind, read_value, gives, one, both, any, maybe}
+use Rattle.iter_syntax.specs.Productions.{place_of, operator, grouped, compared, more_arg, Decl, records_of, iters_of}
+use Rattle.iter_syntax.specs.declared.tree.Arg.{Arg}
+use Rattle.iter_syntax.specs.declared.tree.RecordDecl.{RecordDecl}
+use Rattle.iter_syntax.specs.declared.tree.Iter.{Iter}
+use Rattle.iter_syntax.specs.declared.tree.Program.{Program}
+use Rattle.iter_syntax.specs.declared.tree.Expr.{Expr}
+use Rattle.iter_syntax.specs.declared.tree.Place.{Place}
+
+abbrev pub in_class : Class → Token → Bool
+in_class C.Name t = is_name t
+in_class C.Next t = is_next t
+in_class C.Number t = is_number t
+in_class (C.Keyword k) t = is_keyword k t
+in_class (C.Symbol s) t = is_symbol s t
+
+-- a token of a class, of which the place counts
+abbrev pub of_class : Class → Form Place
+of_class c = gives place_of (one (in_class c))
+
+abbrev pub Reads : {A : Type 0} → Parser A → List Token → ℕ → Result (A × ℕ) Refused → Type 0
+Reads p ts at (Ok x) = (x.1 ≤ length ts) × (p (drop at ts) ≡ Read x.0 (drop x.1 ts))
+Reads p ts at (Err (At stop)) = (stop ≤ length ts) × (p (drop at ts) ≡ Stuck (drop stop ts))
+Reads p ts at (Err Memory) = Unit {0}
+
+-- a row that goes on after the items found so far
+abbrev pub after : {A : Type 0} → List A → Reading (List A) → Reading (List A)
+after found r = bind r (λ others left. Read (found ++ others) left)
+
+-- what stands behind the first operand of a comparison, and of a chain of a level
+abbrev pub comparison_rest : Expr → Form Expr → Parser Expr
+comparison_rest first operand = read_value (λ x. compared (first, x)) (maybe (both (operator 5) operand)).parse
+
+abbrev pub chain_rest : ℕ → Expr → Form Expr → Parser Expr
+chain_rest n first operand = read_value (λ xs. grouped (first, xs)) (any (both (operator n) operand)).parse
+
+-- what stands behind the first argument
+abbrev pub args_rest : Arg → Parser (List Arg)
+args_rest first = read_value (λ others. first ∷ others) (any more_arg).parse
+
+-- a program that goes on after the records and iterators found so far
+abbrev pub program_after : List RecordDecl → List Iter → Reading (List Decl) → Reading Program
+program_after records iters r = bind r (λ ds left. Read (record { records = records ++ records_of ds; iters = iters ++ iters_of ds }) left)

@@ -1,0 +1,4 @@
+pub mod Iterations
+pub mod Leads
+pub mod Ran
+pub mod Steps
