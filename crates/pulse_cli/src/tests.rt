@@ -171,13 +171,33 @@ fn numbers(alloc: Global, items: &[u32]) -> Result<Numbers, Fail> {
     Ok(list)
 }
 
-fn run(alloc: Global, words: &[&str], input: &[u8], piece: usize, fails: Fails) -> Result<Ran, Fail>
+// The words of a command.
+#[derive(Clone, Copy)]
+enum Words {
+    None,
+    Empty,
+    Walk,
+    WalkTwice,
+}
+
+fn words_of(alloc: Global, words: Words) -> Result<Vec<String>, Fail> {
+    let mut all = Vec::new(alloc);
+    match words {
+        Words::None => {}
+        Words::Empty => all.push(String::new(alloc))?,
+        Words::Walk => all.push(String::from_str(alloc, "walk")?)?,
+        Words::WalkTwice => {
+            all.push(String::from_str(alloc, "walk")?)?;
+            all.push(String::from_str(alloc, "walk")?)?;
+        }
+    }
+    Ok(all)
+}
+
+fn run(alloc: Global, words: Words, input: &[u8], piece: usize, fails: Fails) -> Result<Ran, Fail>
     requires { 1 ≤ piece }
 {
-    let mut all = Vec::new(alloc);
-    for word in words {
-        all.push(String::from_str(alloc, word)?)?;
-    }
+    let all = words_of(alloc, words)?;
     let mut bytes = Bytes::new(alloc);
     bytes.append(input)?;
     let mut source = MemSource::make(bytes, piece, numbers(alloc, fails.input)?);
@@ -200,7 +220,7 @@ fn run(alloc: Global, words: &[&str], input: &[u8], piece: usize, fails: Fails) 
 fn walks_lists(rt: HostRuntime) -> Result<(), Fail> {
     for walk in &WALKS {
         let document = document(rt.alloc(), PROGRAM, walk)?;
-        let ran = run(rt.alloc(), &["walk"], document.as_bytes(), 1000, NONE)?;
+        let ran = run(rt.alloc(), Words::Walk, document.as_bytes(), 1000, NONE)?;
         let (order, answer, last) = (walk.order, walk.answer, walk.last);
         let report = format!(in rt.alloc();
             "pulse report 1\norder{order}\nrequest 0 {answer}\nregion 0 hex {FRONT}{last}\nend\n"
@@ -212,113 +232,50 @@ fn walks_lists(rt: HostRuntime) -> Result<(), Fail> {
     Ok(())
 }
 
-// A failure: the words, the bytes that a read takes, the calls that fail, the status and what out and err took.
-#[derive(Clone, Copy)]
-struct Failure {
-    name: &'static str,
-    words: &'static [&'static str],
-    piece: usize,
-    fails: Fails,
-    status: Status,
-    out: &'static [u8],
-    err: &'static [u8],
-}
-
-const NO_WORDS: Failure = Failure {
-    name: "no words",
-    words: &[],
-    piece: 1000,
-    fails: NONE,
-    status: Status::Usage,
-    out: b"",
-    err: b"pulse: usage\n",
+const FIRST_READ: Fails = Fails {
+    input: &[0],
+    ..NONE
 };
 
-const READ: Failure = Failure {
-    name: "the first read",
-    words: &["walk"],
-    piece: 1000,
-    fails: Fails {
-        input: &[0],
-        ..NONE
-    },
-    status: Status::ReadFault,
-    out: b"",
-    err: b"pulse: read\n",
+const SECOND_READ: Fails = Fails {
+    input: &[1],
+    ..NONE
 };
 
-const WRITE: Failure = Failure {
-    name: "the first write",
-    fails: Fails { out: &[0], ..NONE },
-    status: Status::WriteFault,
-    err: b"pulse: write\n",
-    ..READ
-};
+const FIRST_WRITE: Fails = Fails { out: &[0], ..NONE };
 
-const FAILURES: [Failure; 9] = [
-    NO_WORDS,
-    Failure {
-        name: "an empty word",
-        words: &[""],
-        ..NO_WORDS
-    },
-    Failure {
-        name: "a second word",
-        words: &["walk", "walk"],
-        ..NO_WORDS
-    },
-    READ,
-    Failure {
-        name: "the second read",
-        piece: 8,
-        fails: Fails {
-            input: &[1],
-            ..NONE
-        },
-        ..READ
-    },
-    WRITE,
-    Failure {
-        name: "the fourth write",
-        fails: Fails { out: &[3], ..NONE },
-        out: b"pulse report",
-        ..WRITE
-    },
-    Failure {
-        name: "the line of no words",
-        fails: Fails { err: &[0], ..NONE },
-        status: Status::WriteFault,
-        err: b"",
-        ..NO_WORDS
-    },
-    Failure {
-        name: "a read and its line",
-        fails: Fails {
-            input: &[0],
-            err: &[0],
-            out: &[],
-        },
-        status: Status::WriteFault,
-        err: b"",
-        ..READ
-    },
-];
+const FOURTH_WRITE: Fails = Fails { out: &[3], ..NONE };
+
+const FIRST_LINE: Fails = Fails { err: &[0], ..NONE };
+
+const READ_AND_LINE: Fails = Fails {
+    input: &[0],
+    err: &[0],
+    ..NONE
+};
 
 #[test]
+#[rattlefmt::skip]
 fn says_why_it_fails(rt: HostRuntime) -> Result<(), Fail> {
+    // The words, the bytes that a read takes, the calls that fail, the status, and what out and err took.
+    let cases: [(&str, Words, usize, Fails, Status, &[u8], &[u8]); 9] = [
+        ("no words", Words::None, 99, NONE, Status::Usage, b"", b"pulse: usage\n"),
+        ("an empty word", Words::Empty, 99, NONE, Status::Usage, b"", b"pulse: usage\n"),
+        ("two words", Words::WalkTwice, 99, NONE, Status::Usage, b"", b"pulse: usage\n"),
+        ("a read", Words::Walk, 99, FIRST_READ, Status::ReadFault, b"", b"pulse: read\n"),
+        ("a later read", Words::Walk, 8, SECOND_READ, Status::ReadFault, b"", b"pulse: read\n"),
+        ("a write", Words::Walk, 99, FIRST_WRITE, Status::WriteFault, b"", b"pulse: write\n"),
+        ("a later write", Words::Walk, 99, FOURTH_WRITE, Status::WriteFault, b"pulse report", b"pulse: write\n"),
+        ("a line", Words::None, 99, FIRST_LINE, Status::WriteFault, b"", b""),
+        ("a read and its line", Words::Walk, 99, READ_AND_LINE, Status::WriteFault, b"", b""),
+    ];
     let document = document(rt.alloc(), PROGRAM, &WALKS[FIRST_WALK])?;
-    for failure in &FAILURES {
-        assert!(rt; failure.piece >= 1);
-        let ran = run(
-            rt.alloc(),
-            failure.words,
-            document.as_bytes(),
-            failure.piece,
-            failure.fails,
-        )?;
-        assert_eq!(rt; ran.status, failure.status, "{}", failure.name);
-        assert_eq!(rt; ran.out.taken(), failure.out, "{}", failure.name);
-        assert_eq!(rt; ran.err.taken(), failure.err, "{}", failure.name);
+    for (name, words, piece, fails, status, out, err) in cases {
+        assert!(rt; piece >= 1);
+        let ran = run(rt.alloc(), words, document.as_bytes(), piece, fails)?;
+        assert_eq!(rt; ran.status, status, "{name}");
+        assert_eq!(rt; ran.out.taken(), out, "{name}");
+        assert_eq!(rt; ran.err.taken(), err, "{name}");
     }
     Ok(())
 }
@@ -372,7 +329,7 @@ fn refuses<R: std::process::Abort + AllocGlobal>(
     document: &[u8],
     name: &str,
 ) -> Result<(), Fail> {
-    let ran = run(rt.alloc(), &["walk"], document, 1000, NONE)?;
+    let ran = run(rt.alloc(), Words::Walk, document, 1000, NONE)?;
     assert_eq!(rt; ran.status, Status::Refused, "{name}");
     assert_eq!(rt; ran.out.taken(), b"".as_slice(), "{name}");
     assert_eq!(rt; ran.err.taken(), b"pulse: refused\n".as_slice(), "{name}");
