@@ -1,5 +1,5 @@
 -- In a legal order each request counts its places.
-use Rattle.std.proofs.Common.{◌≡◌, ◌≢◌, ℕ, zero, suc, ◌+◌, Bool, true, false, ◌&&◌, nat_eq, nat_lt, List, [], ◌∷◌, set, is_some, cond, ◌==◌, Option, Some, None, if◌then◌else◌, refl, sym, ap, subst, ◌∙◌, arith}
+use Rattle.std.proofs.Common.{◌≡◌, ◌≢◌, ℕ, ◌+◌, Bool, true, false, nat_eq, nat_lt, List, [], ◌∷◌, is_some, cond, ◌==◌, Option, Some, None, if◌then◌else◌, refl, sym, ap, subst, ◌∙◌, arith}
 use Rattle.std.specs.Prelude.{slice_get}
 use Rattle.std.proofs.lemmas.Bool.{and_parts}
 use Rattle.std.proofs.lemmas.List.Recursion.{is_count_by}
@@ -13,7 +13,7 @@ use Rattle.flat_run.specs.Walk.{Walk, record_size}
 use Rattle.flat_run.specs.Region.{spans}
 use Rattle.flat_run.specs.Step.{Turn, turn_at, turn_from, turn_of, can_step, iterates, settled, turned, flat_step}
 use Rattle.flat_run.specs.Run.{flat_run, is_legal}
-use Rattle.flat_run.specs.Laws.{CountLaw, turns_made, places_of}
+use Rattle.flat_run.specs.Laws.{CountLaw, turns_made}
 use Rattle.flat_run.proofs.RecordLaws.{get_same}
 use Rattle.flat_run.proofs.RunLaws.{others_stay}
 

@@ -1,5 +1,5 @@
 -- Names by the place of a name.
-use Rattle.std.proofs.Common.{◌≡◌, ℕ, suc, ◌+◌, ◌-◌, ◌<◌, ◌≤◌, Bool, true, false, List, [], ◌∷◌, length, get_or, set, take, drop, map, refl, sym, ap, ◌∙◌, arith, if◌then◌else◌, remove}
+use Rattle.std.proofs.Common.{◌≡◌, ℕ, suc, ◌-◌, ◌<◌, ◌≤◌, Bool, true, false, List, [], ◌∷◌, length, get_or, set, drop, map, refl, ap, ◌∙◌, arith, if◌then◌else◌, remove}
 use Rattle.std.specs.Prelude.{bytes_eq}
 use Rattle.iter_check.specs.State.{look, change}
 use Rattle.flat_run.specs.declared.names.Name.{Name}

@@ -1,17 +1,16 @@
 -- A step changes only the bytes of its record.
-use Rattle.std.proofs.Common.{◌≡◌, ℕ, zero, suc, ◌+◌, ◌-◌, ◌≤◌, min, List, [], ◌∷◌, ◌++◌, length, take, drop, set, Option, Some, None, refl, sym, ap, subst, ◌∙◌, arith, append_assoc, length-append, length-take, length-drop}
+use Rattle.std.proofs.Common.{◌≡◌, ℕ, zero, suc, ◌+◌, ◌-◌, min, List, [], ◌∷◌, length, take, drop, set, Option, Some, refl, sym, ap, subst, ◌∙◌, arith, length-take, length-drop}
 use Rattle.std.specs.Prelude.{slice_get}
 use Rattle.std.proofs.lemmas.Grind.{common_steps}
-use Rattle.iter_syntax.specs.declared.tree.FieldDecl.{FieldDecl}
 use Rattle.iter_check.specs.Iteration.{Iterated, Done, Goes, Fault}
 use Rattle.iter_check.specs.Laws.{Leaves}
 use Rattle.iter_check.proofs.LengthLaws.{iteration_leaves}
 use Rattle.range_table.specs.Memory.{may_write}
 use Rattle.flat_run.specs.declared.state.FlatRegion.{FlatRegion}
 use Rattle.flat_run.specs.declared.state.FlatState.{FlatState}
-use Rattle.flat_run.specs.Walk.{Walk, record_size}
+use Rattle.flat_run.specs.Walk.{record_size}
 use Rattle.flat_run.specs.Region.{spans, bytes_at, spliced, with_bytes, record_at}
-use Rattle.flat_run.specs.Step.{Turn, turn_of, iterates, settled, turned, flat_step}
+use Rattle.flat_run.specs.Step.{Turn, iterates, settled, turned}
 use Rattle.flat_run.specs.Laws.{RecordLaw, ChangesWithin}
 
 splice_front : (b new : List ℕ) (off size : ℕ) → length new ≡ min size (length b - off) → take off (spliced b off new) ≡ take off b

@@ -1,8 +1,8 @@
 -- The first region that holds a span, by a scan.
-use Rattle.std.proofs.Common.{◌≡◌, ℕ, suc, ◌+◌, ◌-◌, ◌<◌, ◌≤◌, Bool, true, false, not, List, [], ◌∷◌, zero, length, get_or, drop, map, set, refl, sym, ap, subst, ◌∙◌, arith, length-take, length-drop, Option, Some, None, nat_lt, cond, nat_le, if◌then◌else◌}
+use Rattle.std.proofs.Common.{◌≡◌, ℕ, suc, ◌+◌, ◌-◌, ◌<◌, ◌≤◌, Bool, true, false, not, List, [], ◌∷◌, zero, length, get_or, drop, set, sym, ap, subst, ◌∙◌, arith, length-take, length-drop, Some, None, nat_lt, cond}
 use Rattle.std.proofs.lemmas.List.{length-map}
 use Rattle.std.proofs.Math.ListN.{get_or-map}
-use Rattle.std.proofs.lemmas.List.Sums.{prefix_len-drop_no, prefix_len-drop_yes, prefix_len-drop_all}
+use Rattle.std.proofs.lemmas.List.Sums.{prefix_len-drop_no, prefix_len-drop_yes}
 use Rattle.std.specs.List.{prefix_len}
 use Rattle.iter_syntax.specs.declared.tree.FieldDecl.{FieldDecl}
 use Rattle.iter_syntax.specs.declared.tree.Iter.{Iter}
@@ -14,15 +14,8 @@ use Rattle.flat_run.specs.declared.iteration.Iterated.TheVariants as x
 use Rattle.flat_run.specs.Interpreter.{iterated_of, Fits, HasRoom}
 use Rattle.range_table.specs.declared.region.RegionSpan.{RegionSpan}
 use Rattle.std.specs.Prelude.{slice_get}
-use Rattle.pulse_base.specs.declared.answer.FaultKind.{FaultKind}
-use Rattle.range_table.specs.Memory.{Here, NotReadable, holds, region_of, region_at, may_read, may_write, arrival_in}
+use Rattle.range_table.specs.Memory.{holds, region_of}
 use Rattle.flat_run.specs.declared.state.FlatRegion.{FlatRegion}
-use Rattle.flat_run.specs.declared.state.FlatRequest.{FlatRequest}
-use Rattle.flat_run.specs.declared.state.FlatRequest.TheVariants as request
-use Rattle.flat_run.specs.declared.state.FlatState.{FlatState}
-use Rattle.flat_run.specs.declared.walk.FlatWalk.{FlatWalk}
-use Rattle.flat_run.specs.Walk.{Walk, walk_of, walks_of, record_size}
-use Rattle.flat_run.specs.Step.{turn_at, turn_from, turn_of}
 use Rattle.flat_run.specs.Region.{spans, bytes_at, spliced, with_bytes, put_record}
 
 -- the region does not hold the span

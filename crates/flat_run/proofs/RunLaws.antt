@@ -1,14 +1,11 @@
 -- The laws of steps and runs.
-use Rattle.std.proofs.Common.{◌≡◌, ◌≢◌, ℕ, zero, suc, Bool, true, false, List, [], ◌∷◌, ◌++◌, Option, Some, None, is_some, set, refl, sym, ap, ◌∙◌}
+use Rattle.std.proofs.Common.{◌≡◌, ◌≢◌, ℕ, zero, suc, false, List, [], ◌∷◌, Option, Some, None, is_some, set, refl, ap, ◌∙◌}
 use Rattle.std.specs.Prelude.{slice_get}
-use Rattle.pulse_base.specs.declared.answer.FaultKind.{FaultKind}
 use Rattle.iter_check.specs.Iteration.{Iterated, Done, Goes, Fault}
 use Rattle.flat_run.specs.declared.state.FlatRegion.{FlatRegion}
 use Rattle.flat_run.specs.declared.state.FlatState.{FlatState}
-use Rattle.flat_run.specs.Walk.{Walk}
 use Rattle.flat_run.specs.Region.{with_bytes}
-use Rattle.flat_run.specs.Step.{Turn, turn_of, can_step, iterates, settled, turned, flat_step}
-use Rattle.flat_run.specs.Run.{flat_run}
+use Rattle.flat_run.specs.Step.{Turn, turn_of, iterates, settled, turned, flat_step}
 use Rattle.flat_run.specs.Laws.{RunLaw, OthersLaw, RegionsLaw, FaultLaw, StuckLaw}
 
 pub run_appends : RunLaw

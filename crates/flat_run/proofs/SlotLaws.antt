@@ -1,5 +1,5 @@
 -- Capped places, and bytes as numbers.
-use Rattle.std.proofs.Common.{◌≡◌, ℕ, zero, suc, ◌+◌, ◌-◌, ◌*◌, ◌/◌, ◌%◌, ◌^◌, ◌<◌, ◌≤◌, min, Bool, true, false, List, [], ◌∷◌, ◌++◌, length, get_or, set, take, drop, refl, sym, ap, ◌∙◌, arith, if◌then◌else◌, Option, Some, None, option_map, nat_lt, nat_le, length-set, append_assoc, add-one, drop-cons}
+use Rattle.std.proofs.Common.{◌≡◌, ℕ, zero, suc, ◌+◌, ◌-◌, ◌*◌, ◌/◌, ◌%◌, ◌^◌, ◌<◌, ◌≤◌, min, Bool, true, false, List, [], ◌∷◌, ◌++◌, length, get_or, set, take, drop, refl, sym, ap, ◌∙◌, arith, if◌then◌else◌, Option, Some, option_map, nat_le, length-set, append_assoc, add-one, drop-cons}
 use Rattle.std.proofs.Math.Seq.{take-suc-set}
 use Rattle.std.proofs.lemmas.List.{take_all, drop_all}
 use Rattle.std.proofs.Math.Nat.{pow-le-pow_right}
@@ -7,7 +7,7 @@ use Rattle.std.proofs.lemmas.Grind.{pow_more}
 use Rattle.std.specs.Prelude.{bytes_eq}
 use Rattle.iter_syntax.specs.declared.tree.FieldDecl.{FieldDecl}
 use Rattle.iter_check.specs.Layout.{Slot, text, elements, width_bytes, field_size, find_from}
-use Rattle.iter_check.specs.FieldValue.{number_of, bytes_of, read_at, write_at, read_item, write_item}
+use Rattle.iter_check.specs.FieldValue.{number_of, bytes_of, read_at}
 use Rattle.flat_run.specs.Slots.{capped}
 
 abbrev top : ℕ

@@ -1,5 +1,5 @@
 -- What holds of each step and of each run, whatever the iterators.
-use Rattle.std.specs.Prelude.{◌≡◌, ◌≢◌, ◌+◌, ◌-◌, ◌==◌, ℕ, Bool, false, List, ◌++◌, take, drop, count_by, Option, Some, None, slice_get}
+use Rattle.std.specs.Prelude.{◌≡◌, ◌≢◌, ◌+◌, ◌-◌, ◌==◌, ℕ, false, List, ◌++◌, take, drop, count_by, Option, Some, None, slice_get}
 use Rattle.pulse_base.specs.declared.answer.FaultKind.{FaultKind}
 use Rattle.iter_check.specs.Iteration.{Fault}
 use Rattle.flat_run.specs.declared.state.FlatRegion.{FlatRegion}

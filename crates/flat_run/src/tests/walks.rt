@@ -1,7 +1,7 @@
 // Walks over a list of four records, with programs read from text.
 
 use super::super::{FlatRegion, FlatRegions, FlatRequest, FlatWalk, can_step, run, start};
-use iter_syntax::parse;
+use iter_syntax::{FieldDecl, Iter, parse};
 use pulse_base::{Bytes, Numbers};
 use range_table::RegionSpan;
 use std::alloc::Global;
@@ -141,6 +141,52 @@ fn memory(alloc: Global, row: &Row) -> Result<FlatRegions, Fail> {
     Ok(regions)
 }
 
+// A turn for request 0, so many times.
+fn turns(alloc: Global, count: u32) -> Result<Numbers, Fail> {
+    let mut order = Numbers::new(alloc);
+    for _ in 0..count {
+        order.push(0)?;
+    }
+    Ok(order)
+}
+
+// Whether a request stands as a row says it ends.
+fn is_at(alloc: Global, request: &FlatRequest, row: &Row) -> Result<bool, Fail> {
+    match (request, row.end) {
+        (FlatRequest::Ready { cur, count, .. }, End::At(at)) => {
+            Ok(*cur == at && *count == u64::from(row.turns))
+        }
+        (FlatRequest::Done { pad, count }, End::Done(key, got)) => {
+            let mut want = Bytes::new(alloc);
+            want.append(&key.to_le_bytes())?;
+            want.append(&got.to_le_bytes())?;
+            Ok(pad.as_slice() == want.as_slice() && *count == u64::from(row.turns))
+        }
+        _ => Ok(false),
+    }
+}
+
+// Whether a row's walk makes its turns, has none left, and ends as the row says.
+fn goes_as_said(alloc: Global, fields: &[FieldDecl], iter: &Iter, row: &Row) -> Result<bool, Fail> {
+    let walks = [FlatWalk {
+        fields,
+        iter,
+        args: &row.args,
+    }];
+    let order = turns(alloc, row.turns)?;
+    let mut state = start(alloc, memory(alloc, row)?, &walks)?;
+    if !run(alloc, &walks, row.limit, &mut state, order.as_slice())? {
+        return Ok(false);
+    }
+    if can_step(&walks, row.limit, &state, 0) {
+        return Ok(false);
+    }
+    match state.requests.as_slice() {
+        [request] => is_at(alloc, request, row),
+        _ => Ok(false),
+    }
+}
+
 #[test]
 fn walks_a_list(rt: HostRuntime) -> Result<(), Fail> {
     let program = parse(rt.alloc(), PROGRAM)?;
@@ -148,36 +194,11 @@ fn walks_a_list(rt: HostRuntime) -> Result<(), Fail> {
         return Err("not one record and one iterator")?;
     };
     for row in &ROWS {
-        let walks = [FlatWalk {
-            fields: record.fields.as_slice(),
-            iter: it,
-            args: &row.args,
-        }];
-        let mut state = start(rt.alloc(), memory(rt.alloc(), row)?, &walks)?;
-        let mut order = Numbers::new(rt.alloc());
-        for _ in 0..row.turns {
-            order.push(0)?;
-        }
         assert!(rt;
-            run(rt.alloc(), &walks, row.limit, &mut state, order.as_slice())?,
+            goes_as_said(rt.alloc(), record.fields.as_slice(), it, row)?,
             "{}",
             row.name
         );
-        assert!(rt; !can_step(&walks, row.limit, &state, 0), "{}", row.name);
-        match (state.requests.as_slice(), row.end) {
-            ([FlatRequest::Ready { cur, count, .. }], End::At(at)) => {
-                assert_eq!(rt; *cur, at, "{}", row.name);
-                assert_eq!(rt; *count, u64::from(row.turns), "{}", row.name);
-            }
-            ([FlatRequest::Done { pad, count }], End::Done(key, got)) => {
-                let mut want = Bytes::new(rt.alloc());
-                want.append(&key.to_le_bytes())?;
-                want.append(&got.to_le_bytes())?;
-                assert_eq!(rt; pad.as_slice(), want.as_slice(), "{}", row.name);
-                assert_eq!(rt; *count, u64::from(row.turns), "{}", row.name);
-            }
-            _ => return Err("another end")?,
-        }
     }
     Ok(())
 }

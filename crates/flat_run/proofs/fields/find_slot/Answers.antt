@@ -1,7 +1,6 @@
 use Rattle.std.proofs.Common.{◌≡◌, ◌+◌, ◌-◌, ◌*◌, ◌^◌, false, true, min, Some, sym, ap, ◌∙◌, arith}
 use Rattle.std.specs.Prelude.{bytes_eq}
 use Rattle.iter_check.specs.Layout.{text, elements, width_bytes}
-use Rattle.flat_run.specs.Slots.{capped}
 use Rattle.flat_run.proofs.SlotLaws.{passed, found, place}
 use Rattle.flat_run.proofs.fields.find_slot.Goals as goal
 

@@ -1,4 +1,4 @@
-use Rattle.std.proofs.Common.{ap, sym, ◌∙◌, replicate}
+use Rattle.std.proofs.Common.{ap, ◌∙◌, replicate}
 use Rattle.iter_check.specs.Layout.{size_of}
 use Rattle.iter_check.specs.Iteration.{with_arguments}
 use Rattle.std.specs.Prelude.{[]}

@@ -1,4 +1,4 @@
-use Rattle.std.proofs.Common.{ap, sym, ◌∙◌, ◌-◌, length, drop, map, arith}
+use Rattle.std.proofs.Common.{ap, ◌∙◌, ◌-◌, length, drop, map, arith}
 use Rattle.flat_run.specs.NamesView.{pair_of}
 use Rattle.flat_run.proofs.NamesLaws.{shed_one}
 use Rattle.flat_run.proofs.names.Names.keep_oldest.Goals as goal
