@@ -2,8 +2,8 @@
 
 use crate::bad::{Bad, BadKind, Sizes};
 use crate::verifier::verify;
-use pulse_isa::Instr;
 use pulse_isa::Instr::{Add, GetC, GetP, GetW, Jmp, Jne, Load, NextIter, PutW, Return, SetL};
+use pulse_isa::{Instr, line};
 
 const BODY: Sizes = Sizes {
     init: false,
@@ -43,6 +43,93 @@ fn accepts_a_list_search(rt: HostRuntime) {
     assert_eq!(rt; verify(&init, INIT), Ok(()));
     assert_eq!(rt; verify(&body, BODY), Ok(()));
     assert_eq!(rt; verify(&body, INIT), bad(0, BadKind::Window));
+}
+
+#[test]
+fn lists_a_list_search(rt: HostRuntime) {
+    let table = [
+        (Load { off: 0, len: 8 }, "LOAD 0 8"),
+        (GetW { a: 8, w: 8, off: 0 }, "GETW r8 8 0"),
+        (NextIter { a: 8 }, "NEXT_ITER r8"),
+        (Load { off: 16, len: 8 }, "LOAD 16 8"),
+        (
+            GetW {
+                a: 8,
+                w: 8,
+                off: 16,
+            },
+            "GETW r8 8 16",
+        ),
+        (SetL { a: 9, imm: 0 }, "SETL r9 0"),
+        (Jne { a: 8, b: 9, to: 5 }, "JNE r8 r9 5"),
+        (Return, "RETURN"),
+    ];
+    for (i, text) in table {
+        assert_eq!(rt; line(&i).as_slice(), text.as_bytes(), "{text}");
+    }
+}
+
+#[test]
+fn refuses_variants_of_a_list_search(rt: HostRuntime) {
+    let load = Load { off: 16, len: 8 };
+    let get = GetW {
+        a: 8,
+        w: 8,
+        off: 16,
+    };
+    let zero = SetL { a: 9, imm: 0 };
+    let jump = Jne { a: 8, b: 9, to: 5 };
+    let go = NextIter { a: 8 };
+    let long = Load { off: 17, len: 8 };
+    let below = GetW {
+        a: 8,
+        w: 8,
+        off: 15,
+    };
+    let above = GetW {
+        a: 8,
+        w: 8,
+        off: 17,
+    };
+    let past = GetW {
+        a: 16,
+        w: 8,
+        off: 16,
+    };
+    let own = Jne { a: 8, b: 9, to: 3 };
+    let out = Jne { a: 8, b: 9, to: 6 };
+    let over = GetP { a: 9, w: 8, off: 1 };
+    let table = [
+        ([get, get, zero, jump, Return, go], bad(0, BadKind::NoLoad)),
+        ([long, get, zero, jump, Return, go], bad(0, BadKind::Window)),
+        (
+            [load, load, zero, jump, Return, go],
+            bad(1, BadKind::SecondLoad),
+        ),
+        (
+            [load, below, zero, jump, Return, go],
+            bad(1, BadKind::Window),
+        ),
+        (
+            [load, above, zero, jump, Return, go],
+            bad(1, BadKind::Window),
+        ),
+        (
+            [load, past, zero, jump, Return, go],
+            bad(1, BadKind::Register),
+        ),
+        ([load, get, over, jump, Return, go], bad(2, BadKind::Pad)),
+        ([load, get, zero, own, Return, go], bad(3, BadKind::Jump)),
+        ([load, get, zero, out, Return, go], bad(3, BadKind::Jump)),
+        (
+            [load, get, zero, jump, Return, zero],
+            bad(5, BadKind::FallsOff),
+        ),
+        ([load, get, zero, jump, Return, Return], Ok(())),
+    ];
+    for (code, answer) in table {
+        assert_eq!(rt; verify(&code, BODY), answer);
+    }
 }
 
 #[test]
