@@ -70,17 +70,14 @@ fn lists_a_list_search(rt: HostRuntime) {
 }
 
 #[test]
-fn refuses_variants_of_a_list_search(rt: HostRuntime) {
+fn refuses_other_loads_and_reads(rt: HostRuntime) {
     let load = Load { off: 16, len: 8 };
+    let long = Load { off: 17, len: 8 };
     let get = GetW {
         a: 8,
         w: 8,
         off: 16,
     };
-    let zero = SetL { a: 9, imm: 0 };
-    let jump = Jne { a: 8, b: 9, to: 5 };
-    let go = NextIter { a: 8 };
-    let long = Load { off: 17, len: 8 };
     let below = GetW {
         a: 8,
         w: 8,
@@ -96,40 +93,65 @@ fn refuses_variants_of_a_list_search(rt: HostRuntime) {
         w: 8,
         off: 16,
     };
+    let table = [
+        ([get, get, Return], bad(0, BadKind::NoLoad)),
+        ([long, get, Return], bad(0, BadKind::Window)),
+        ([load, load, Return], bad(1, BadKind::SecondLoad)),
+        ([load, below, Return], bad(1, BadKind::Window)),
+        ([load, above, Return], bad(1, BadKind::Window)),
+        ([load, past, Return], bad(1, BadKind::Register)),
+    ];
+    for (code, answer) in table {
+        assert_eq!(rt; verify(&code, BODY), answer);
+    }
+}
+
+#[test]
+fn refuses_variants_of_a_list_search(rt: HostRuntime) {
+    let load = Load { off: 16, len: 8 };
+    let get = GetW {
+        a: 8,
+        w: 8,
+        off: 16,
+    };
+    let zero = SetL { a: 9, imm: 0 };
+    let jump = Jne { a: 8, b: 9, to: 5 };
+    let go = NextIter { a: 8 };
     let own = Jne { a: 8, b: 9, to: 3 };
     let out = Jne { a: 8, b: 9, to: 6 };
     let over = GetP { a: 9, w: 8, off: 1 };
+    let falls = bad(5, BadKind::FallsOff);
     let table = [
-        ([get, get, zero, jump, Return, go], bad(0, BadKind::NoLoad)),
-        ([long, get, zero, jump, Return, go], bad(0, BadKind::Window)),
-        (
-            [load, load, zero, jump, Return, go],
-            bad(1, BadKind::SecondLoad),
-        ),
-        (
-            [load, below, zero, jump, Return, go],
-            bad(1, BadKind::Window),
-        ),
-        (
-            [load, above, zero, jump, Return, go],
-            bad(1, BadKind::Window),
-        ),
-        (
-            [load, past, zero, jump, Return, go],
-            bad(1, BadKind::Register),
-        ),
         ([load, get, over, jump, Return, go], bad(2, BadKind::Pad)),
         ([load, get, zero, own, Return, go], bad(3, BadKind::Jump)),
         ([load, get, zero, out, Return, go], bad(3, BadKind::Jump)),
-        (
-            [load, get, zero, jump, Return, zero],
-            bad(5, BadKind::FallsOff),
-        ),
+        ([load, get, zero, jump, Return, zero], falls),
         ([load, get, zero, jump, Return, Return], Ok(())),
     ];
     for (code, answer) in table {
         assert_eq!(rt; verify(&code, BODY), answer);
     }
+}
+
+#[test]
+fn names_what_is_wrong_with_the_load(rt: HostRuntime) {
+    let load = Load { off: 8, len: 16 };
+    let register = GetW {
+        a: 16,
+        w: 8,
+        off: 0,
+    };
+    assert_eq!(rt; verify(&[], BODY), bad(0, BadKind::Empty));
+    assert_eq!(rt; verify(&[register, load], BODY), bad(0, BadKind::NoLoad));
+    assert_eq!(rt;
+        verify(&[Load { off: 8, len: 17 }, load], BODY),
+        bad(0, BadKind::Window)
+    );
+    assert_eq!(rt;
+        verify(&[Load { off: 25, len: 0 }, Return], BODY),
+        bad(0, BadKind::Window)
+    );
+    assert_eq!(rt; verify(&[Load { off: 24, len: 0 }, Return], BODY), Ok(()));
 }
 
 #[test]
@@ -147,17 +169,6 @@ fn names_the_first_broken_rule(rt: HostRuntime) {
         w: 8,
         off: 0,
     };
-    assert_eq!(rt; verify(&[], BODY), bad(0, BadKind::Empty));
-    assert_eq!(rt; verify(&[register, load], BODY), bad(0, BadKind::NoLoad));
-    assert_eq!(rt;
-        verify(&[Load { off: 8, len: 17 }, load], BODY),
-        bad(0, BadKind::Window)
-    );
-    assert_eq!(rt;
-        verify(&[Load { off: 25, len: 0 }, Return], BODY),
-        bad(0, BadKind::Window)
-    );
-    assert_eq!(rt; verify(&[Load { off: 24, len: 0 }, Return], BODY), Ok(()));
     assert_eq!(rt;
         verify(&[load, Load { off: 25, len: 0 }], BODY),
         bad(1, BadKind::SecondLoad)
