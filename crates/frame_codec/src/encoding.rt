@@ -43,24 +43,26 @@ fn pad_of(frame: &Frame) -> &[u8]
     }
 }
 
+// The header of a stop.
+const STOP: Header = Header {
+    magic: MAGIC,
+    version: VERSION,
+    kind: 3,
+    client: 0,
+    request: 0,
+    leg: 0,
+    program: 0,
+    left: 0,
+    ending: 0,
+    fault: 0,
+    cur: 0,
+    pad_len: 0,
+};
+
 fn header_of(frame: &Frame) -> Header
     ensures { result ≡ header_of frame.now }
 {
     let pad_len = pad_of(frame).len() as u16;
-    let stop = Header {
-        magic: MAGIC,
-        version: VERSION,
-        kind: 3,
-        client: 0,
-        request: 0,
-        leg: 0,
-        program: 0,
-        left: 0,
-        ending: 0,
-        fault: 0,
-        cur: 0,
-        pad_len,
-    };
     match frame {
         Frame::Leg(leg) => Header {
             kind: 1,
@@ -70,7 +72,8 @@ fn header_of(frame: &Frame) -> Header
             program: leg.program,
             left: leg.left,
             cur: leg.cur,
-            ..stop
+            pad_len,
+            ..STOP
         },
         Frame::Back(back) => {
             let (ending, fault) = ending_numbers(back.ending);
@@ -84,10 +87,11 @@ fn header_of(frame: &Frame) -> Header
                 ending,
                 fault,
                 cur: back.cur,
-                ..stop
+                pad_len,
+                ..STOP
             }
         }
-        Frame::Stop => stop,
+        Frame::Stop => STOP,
     }
 }
 

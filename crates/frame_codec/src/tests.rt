@@ -85,7 +85,7 @@ fn a_leg_of_one_zero_byte(rt: HostRuntime) {
 }
 
 #[test]
-fn frames_at_their_bounds(rt: HostRuntime) {
+fn a_leg_of_the_greatest_numbers(rt: HostRuntime) {
     agree(
         &rt,
         &Frame::Leg(Leg {
@@ -103,6 +103,10 @@ fn frames_at_their_bounds(rt: HostRuntime) {
         ],
         &[0xa5; 256],
     );
+}
+
+#[test]
+fn backs_that_end_without_a_fault(rt: HostRuntime) {
     agree(
         &rt,
         &Frame::Back(back(0x0e0d, 0x1817_1615_1413_1211, Ending::Reroute)),
@@ -130,6 +134,10 @@ fn frames_at_their_bounds(rt: HostRuntime) {
         ],
         &[7, 8],
     );
+}
+
+#[test]
+fn a_stop_is_a_header_alone(rt: HostRuntime) {
     agree(&rt, &Frame::Stop, &STOP, &[]);
 }
 
@@ -168,47 +176,62 @@ fn refusal(rt: &impl Abort, bytes: &[u8], at: usize, byte: u8) -> Option<BadFram
     decode(edited.as_slice()).err()
 }
 
+// Refused for a number that breaks its rules.
+const FIELD: Option<BadFrame> = Some(BadFrame::Field);
+
 #[test]
-fn one_byte_past_its_bound(rt: HostRuntime) {
-    let field = Some(BadFrame::Field);
+fn one_byte_of_a_leg_past_its_bound(rt: HostRuntime) {
     let cases = [
-        (&LEG, 0, 0x51, Some(BadFrame::Magic)),
-        (&LEG, 1, 0x4d, Some(BadFrame::Magic)),
-        (&LEG, 2, 0, Some(BadFrame::Version)),
-        (&LEG, 2, 2, Some(BadFrame::Version)),
-        (&LEG, 3, 0, Some(BadFrame::Kind)),
-        (&LEG, 3, 4, Some(BadFrame::Kind)),
-        (&LEG, 16, 0, field),
-        (&LEG, 18, 1, field),
-        (&LEG, 19, 1, field),
-        (&LEG, 28, 0, field),
-        (&LEG, 28, 2, Some(BadFrame::Short)),
-        (&LEG, 29, 1, field),
+        (0, 0x51, Some(BadFrame::Magic)),
+        (1, 0x4d, Some(BadFrame::Magic)),
+        (2, 0, Some(BadFrame::Version)),
+        (2, 2, Some(BadFrame::Version)),
+        (3, 0, Some(BadFrame::Kind)),
+        (3, 4, Some(BadFrame::Kind)),
+        (16, 0, FIELD),
+        (18, 1, FIELD),
+        (19, 1, FIELD),
+        (28, 0, FIELD),
+        (28, 2, Some(BadFrame::Short)),
+        (29, 1, FIELD),
+    ];
+    for (at, byte, want) in cases {
+        assert_eq!(rt; refusal(&rt, &LEG, at, byte), want, "{byte} at {at}");
+    }
+}
+
+#[test]
+fn one_byte_of_a_back_past_its_bound(rt: HostRuntime) {
+    let cases = [
         (&DONE, 16, 1, None),
-        (&DONE, 18, 0, field),
-        (&DONE, 18, 5, field),
-        (&DONE, 19, 1, field),
-        (&DONE, 20, 1, field),
-        (&DONE, 27, 1, field),
-        (&DONE, 28, 0, field),
-        (&DONE, 29, 1, field),
-        (&REROUTE, 16, 0, field),
-        (&REROUTE, 19, 1, field),
+        (&DONE, 18, 0, FIELD),
+        (&DONE, 18, 5, FIELD),
+        (&DONE, 19, 1, FIELD),
+        (&DONE, 20, 1, FIELD),
+        (&DONE, 27, 1, FIELD),
+        (&DONE, 28, 0, FIELD),
+        (&DONE, 29, 1, FIELD),
+        (&REROUTE, 16, 0, FIELD),
+        (&REROUTE, 19, 1, FIELD),
         (&REROUTE, 27, 1, None),
-        (&RESUME, 16, 1, field),
-        (&RESUME, 17, 1, field),
-        (&RESUME, 19, 1, field),
+        (&RESUME, 16, 1, FIELD),
+        (&RESUME, 17, 1, FIELD),
+        (&RESUME, 19, 1, FIELD),
         (&RESUME, 27, 1, None),
-        (&FAULT, 16, 0, field),
-        (&FAULT, 19, 0, field),
+        (&FAULT, 16, 0, FIELD),
+        (&FAULT, 19, 0, FIELD),
         (&FAULT, 19, 4, None),
-        (&FAULT, 19, 5, field),
+        (&FAULT, 19, 5, FIELD),
     ];
     for (frame, at, byte, want) in cases {
         assert_eq!(rt; refusal(&rt, frame, at, byte), want, "{byte} at {at}");
     }
+}
+
+#[test]
+fn one_byte_of_a_stop_past_its_bound(rt: HostRuntime) {
     for at in 4..30 {
-        assert_eq!(rt; refusal(&rt, &STOP, at, 1), field, "1 at {at} of a stop");
+        assert_eq!(rt; refusal(&rt, &STOP, at, 1), FIELD, "at {at}");
     }
 }
 

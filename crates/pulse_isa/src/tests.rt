@@ -23,7 +23,7 @@ fn spells(rt: &impl Abort, word: u64, i: Instr, text: &str) {
 }
 
 #[test]
-fn spells_what_moves(rt: HostRuntime) {
+fn spells_accesses_to_the_window(rt: HostRuntime) {
     let table = [
         (0x0100000000000800, Load { off: 0, len: 8 }, "LOAD 0 8"),
         (0x0100000010000800, Load { off: 16, len: 8 }, "LOAD 16 8"),
@@ -55,6 +55,15 @@ fn spells_what_moves(rt: HostRuntime) {
             },
             "PUTW r2 2 258",
         ),
+    ];
+    for (word, i, text) in table {
+        spells(&rt, word, i, text);
+    }
+}
+
+#[test]
+fn spells_accesses_to_the_pad(rt: HostRuntime) {
+    let table = [
         (
             0x040f010000000000,
             GetP {
@@ -73,6 +82,15 @@ fn spells_what_moves(rt: HostRuntime) {
             },
             "PUTP r0 8 16",
         ),
+    ];
+    for (word, i, text) in table {
+        spells(&rt, word, i, text);
+    }
+}
+
+#[test]
+fn spells_what_sets_a_register(rt: HostRuntime) {
+    let table = [
         (0x0607000000000000, GetC { a: 7 }, "GETC r7"),
         (0x0709000000000000, SetL { a: 9, imm: 0 }, "SETL r9 0"),
         (
