@@ -15,7 +15,8 @@ use Rattle.iter_check.specs.State.{Names, Setting, State}
 use Rattle.iter_check.specs.Iteration.{begun, begin, with_arguments}
 use Rattle.std.proofs.lemmas.List.{drop_all}
 use Rattle.iter_check.specs.Meaning.{Outcome, Falls, then_do, meaning, turns, declare, within}
-use Rattle.iter_check.proofs.MeaningLaws.{with_layer, st_then, block_is}
+use Rattle.iter_check.proofs.MeaningLaws.{with_layer, st_then}
+use Rattle.iter_syntax.proofs.FoldLaws.{block_is}
 use Rattle.flat_run.specs.declared.value.State as r
 use Rattle.flat_run.specs.declared.statements.Ending.{Ending}
 use Rattle.flat_run.specs.declared.statements.Ending.TheVariants as ending

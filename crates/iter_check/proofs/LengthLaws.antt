@@ -1,6 +1,5 @@
 -- Statements keep how long the record and the pad are.
-use Rattle.std.proofs.Common.{◌≡◌, ℕ, zero, suc, ◌+◌, ◌-◌, ◌*◌, ◌/◌, ◌≤◌, Bool, true, false, List, [], ◌∷◌, ◌++◌, Option, Some, None, length, take, drop, nat_le, nat_lt, if◌then◌else◌, refl, sym, ap, ◌∙◌, arith, length-append, length-take, length-drop}
-use Rattle.pulse_base.specs.declared.answer.FaultKind.{FaultKind}
+use Rattle.std.proofs.Common.{◌≡◌, ℕ, zero, suc, ◌+◌, ◌-◌, ◌*◌, ◌/◌, ◌≤◌, Bool, true, false, List, [], ◌++◌, Option, Some, None, length, take, drop, nat_le, nat_lt, if◌then◌else◌, refl, ap, ◌∙◌, arith, length-append, length-take, length-drop}
 use Rattle.iter_syntax.specs.declared.tree.Word.{Word}
 use Rattle.iter_syntax.specs.declared.tree.Iter.{Iter}
 use Rattle.iter_syntax.specs.declared.tree.FieldDecl.{FieldDecl}
@@ -10,7 +9,7 @@ use Rattle.iter_check.specs.Layout.{Slot, find_field, text}
 use Rattle.iter_check.specs.FieldValue.{bytes_of, write_at, write_item}
 use Rattle.iter_check.specs.State.{Setting, State}
 use Rattle.iter_check.specs.Value.{word, value_of}
-use Rattle.iter_check.specs.Meaning.{Outcome, Falls, Done, Goes, Fault, declare, assign, store_pad, store_record, given, if_writable, then_do, within, inside, pick, turns, meaning}
+use Rattle.iter_check.specs.Meaning.{Outcome, Falls, Done, Goes, Fault, declare, assign, store_pad, store_record, given, if_writable, then_do, within, pick, turns, meaning}
 use Rattle.iter_check.specs.Laws.{Leaves}
 use Rattle.iter_check.specs.Iteration.{iterated, iteration, end_then_next}
 

@@ -1,15 +1,14 @@
 -- What statements mean, one after another.
-use Rattle.std.proofs.Common.{◌≡◌, ℕ, suc, ◌+◌, ◌-◌, Bool, true, false, List, [], ◌∷◌, Option, Some, None, length, map, refl, sym, ap, subst, ◌∙◌}
+use Rattle.std.proofs.Common.{◌≡◌, ℕ, ◌-◌, Bool, true, false, Option, Some, None, refl, sym, subst, ◌∙◌}
 use Rattle.iter_syntax.specs.declared.tree.Place.{Place}
 use Rattle.iter_syntax.specs.declared.tree.Word.{Word}
-use Rattle.iter_syntax.specs.declared.tree.Block.{Block}
 use Rattle.iter_syntax.specs.declared.tree.Stmt.{Stmt}
 use Rattle.iter_syntax.specs.declared.tree.Stmt.TheOpen as P
-use Rattle.iter_syntax.specs.declared.tree.Stmt.TheFolds.{fold_out-Stmt, fold_out-Block}
-use Rattle.iter_syntax.specs.Tree.{Ex, Sts, ex, used, st, sts, block, row, st_step, block_step, to_pad, to_cur, branch, end}
+use Rattle.iter_syntax.specs.declared.tree.Stmt.TheFolds.{fold_out-Stmt}
+use Rattle.iter_syntax.specs.Tree.{Ex, Sts, ex, used, st, st_step, block_step, to_pad, to_cur, branch, end}
 use Rattle.iter_check.specs.State.{Setting, State}
 use Rattle.iter_check.specs.Value.{word, value_of}
-use Rattle.iter_check.specs.Meaning.{Outcome, Falls, Done, Goes, Fault, declare, given, if_writable, then_do, inside, pick, turns, meaning}
+use Rattle.iter_check.specs.Meaning.{Outcome, Falls, Done, Goes, Fault, given, if_writable, then_do, inside, pick, turns, meaning}
 
 pub then_then : (o : Outcome) (f g : State → Outcome) → then_do (then_do o f) g ≡ then_do o (λ s. then_do (f s) g)
 then_then (Falls s) f g = refl
@@ -65,11 +64,3 @@ with_layer t Q h = subst Q (sym (fold_out-Stmt (Sts → Sts) Sts st_step block_s
 pub st_then : (g : Setting) (t : Stmt) (rest : Sts) (s : State) → meaning g (st t rest) s ≡ then_do (meaning g (st t end) s) (meaning g rest)
 st_then g t rest s =
     with_layer t (λ f. meaning g (f rest) s ≡ then_do (meaning g (f end) s) (meaning g rest)) (λ l. step_then g l rest s)
-
-map_row : (a : List Stmt) → row (map st a) end ≡ sts a
-map_row [] = refl
-map_row (s ∷ ss) = ap (st s) (map_row ss)
-
--- a block is its statements
-pub block_is : (b : Block) → block b ≡ sts b.stmts
-block_is b = fold_out-Block (Sts → Sts) Sts st_step block_step b ∙ map_row b.stmts

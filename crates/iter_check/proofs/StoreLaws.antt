@@ -1,8 +1,8 @@
 -- A store changes the bytes of its field alone.
-use Rattle.std.proofs.Common.{◌≡◌, ℕ, ◌+◌, ◌≤◌, Bool, true, false, List, ◌++◌, length, take, drop, nat_le, if◌then◌else◌, refl, sym, ap, ◌∙◌, arith, append_assoc, length-append, length-take}
+use Rattle.std.proofs.Common.{◌≡◌, ◌+◌, Bool, true, false, ◌++◌, length, take, drop, nat_le, if◌then◌else◌, refl, sym, ap, ◌∙◌, arith, append_assoc, length-append, length-take}
 use Rattle.std.proofs.Math.Seq.{take-append_seam, drop-append_seam}
 use Rattle.iter_check.specs.FieldValue.{bytes_of, write_at}
-use Rattle.iter_check.specs.Laws.{StoresAlone, StoreLaw}
+use Rattle.iter_check.specs.Laws.{StoreLaw}
 use Rattle.iter_check.proofs.LengthLaws.{length-bytes_of, length-write_at}
 
 if_so : {A : Type 0} (b : Bool) (x y : A) → b ≡ true → (if b then x else y) ≡ x

@@ -1,15 +1,14 @@
 -- A form that may stand deeper is the same for token lists that are short enough.
-use Rattle.std.proofs.Common.{◌≡◌, ℕ, zero, suc, ◌+◌, ◌<◌, ◌≤◌, Bool, true, false, nat_eq, List, [], ◌∷◌, ◌++◌, length, refl, sym, ap, ◌∙◌, subst, ◌⊎◌, inl, inr, arith, length-append, Option, Some, None}
+use Rattle.std.proofs.Common.{◌≡◌, ℕ, zero, suc, ◌<◌, ◌≤◌, Bool, true, false, nat_eq, List, [], ◌∷◌, length, sym, ap, subst, ◌⊎◌, inl, inr, arith, length-append, Option, Some, None}
 use Rattle.iter_syntax.specs.declared.token.Token.{Token}
 use Rattle.iter_syntax.specs.declared.token.Keyword.{Keyword}
 use Rattle.iter_syntax.specs.declared.token.Keyword.TheVariants as W
 use Rattle.iter_syntax.specs.declared.token.Symbol.{Symbol}
 use Rattle.iter_syntax.specs.declared.token.Symbol.TheVariants as S
 use Rattle.iter_syntax.specs.declared.tree.Expr.{Expr}
-use Rattle.iter_syntax.specs.declared.tree.Expr.TheVariants as E
 use Rattle.iter_syntax.specs.declared.tree.Block.{Block}
 use Rattle.iter_syntax.specs.Grammar.{Grammar, token, pair, value, row, many, optional, whole_or_nothing, either, nothing}
-use Rattle.iter_syntax.specs.Form.{Form, Reading, Read, Stuck, one, both, gives, any, maybe, or, framed}
+use Rattle.iter_syntax.specs.Form.{Form, Reading, Read, Stuck, both}
 use Rattle.iter_syntax.specs.Kinds.{is_symbol, is_keyword, is_name}
 use Rattle.iter_syntax.specs.Productions as P
 use Rattle.iter_syntax.proofs.Exact.{Tokens, Fitting, nil_left}

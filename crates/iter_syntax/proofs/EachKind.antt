@@ -1,6 +1,6 @@
 -- Facts of sets of tokens, by trying each kind.
 use Rattle.std.specs.Prelude.{slice_get}
-use Rattle.std.proofs.Common.{◌≡◌, ℕ, zero, suc, List, [], ◌∷◌, Some, Bool, true, false, if◌then◌else◌, refl, sym, ap, ◌∙◌}
+use Rattle.std.proofs.Common.{◌≡◌, ℕ, zero, suc, List, [], ◌∷◌, Some, Bool, true, false, refl, sym, ap, ◌∙◌}
 use Rattle.arrayvec.specs.ArrayVec.{ArrayVec}
 use Rattle.iter_syntax.specs.declared.tree.Place.{Place}
 use Rattle.iter_syntax.specs.declared.token.Token.{Token}
@@ -43,63 +43,14 @@ at_number p [] h n x e = absurd (cc)
 at_number p (y ∷ xs) h zero x e = let q : y ≡ x = cc in ap p (sym q) ∙ left (p y) (all_of p xs) h
 at_number p (y ∷ xs) h (suc n) x e = at_number p xs (right (p y) (all_of p xs) h) n x e
 
-keyword_is : (k : Keyword) → slice_get keywords (keyword_number k) ≡ Some k
+-- each stands at its number
+pub keyword_is : (k : Keyword) → slice_get keywords (keyword_number k) ≡ Some k
 keyword_is W.Record = refl
-keyword_is W.Iter = refl
-keyword_is W.On = refl
-keyword_is W.Pad = refl
-keyword_is W.Init = refl
-keyword_is W.End = refl
-keyword_is W.Let = refl
-keyword_is W.If = refl
-keyword_is W.Else = refl
-keyword_is W.For = refl
-keyword_is W.In = refl
-keyword_is W.Done = refl
-keyword_is W.Go = refl
-keyword_is W.Cur = refl
-keyword_is W.Null = refl
-keyword_is W.At = refl
-keyword_is W.Int = refl
-keyword_is W.Ptr = refl
-keyword_is W.U8 = refl
-keyword_is W.U16 = refl
-keyword_is W.U32 = refl
-keyword_is W.U64 = refl
+keyword_is k = refl
 
-symbol_is : (s : Symbol) → slice_get symbols (symbol_number s) ≡ Some s
+pub symbol_is : (s : Symbol) → slice_get symbols (symbol_number s) ≡ Some s
 symbol_is S.Range = refl
-symbol_is S.EqualEqual = refl
-symbol_is S.NotEqual = refl
-symbol_is S.LessEqual = refl
-symbol_is S.GreaterEqual = refl
-symbol_is S.ShiftLeft = refl
-symbol_is S.ShiftRight = refl
-symbol_is S.AndAnd = refl
-symbol_is S.OrOr = refl
-symbol_is S.OpenBrace = refl
-symbol_is S.CloseBrace = refl
-symbol_is S.OpenRound = refl
-symbol_is S.CloseRound = refl
-symbol_is S.OpenSquare = refl
-symbol_is S.CloseSquare = refl
-symbol_is S.Colon = refl
-symbol_is S.Semicolon = refl
-symbol_is S.Comma = refl
-symbol_is S.Dot = refl
-symbol_is S.Assign = refl
-symbol_is S.Less = refl
-symbol_is S.Greater = refl
-symbol_is S.Plus = refl
-symbol_is S.Minus = refl
-symbol_is S.Star = refl
-symbol_is S.Slash = refl
-symbol_is S.Percent = refl
-symbol_is S.And = refl
-symbol_is S.Or = refl
-symbol_is S.Caret = refl
-symbol_is S.Bang = refl
-symbol_is S.Tilde = refl
+symbol_is s = refl
 
 -- a test holds at each kind
 abbrev pub Each : (TokenKind → Bool) → Type 0

@@ -1,8 +1,8 @@
 -- A parser that looks one token ahead answers by its grammar: one token, a pair, another value.
-use Rattle.std.proofs.Common.{◌≡◌, ◌≢◌, ℕ, zero, suc, ◌+◌, ◌<◌, ◌≤◌, Bool, true, false, ◌||◌, if◌then◌else◌, List, [], ◌∷◌, ◌++◌, length, refl, sym, ap, ◌∙◌, subst, ◌⊎◌, inl, inr, arith, append_assoc, append-nil, length-append, Option, Some, None}
+use Rattle.std.proofs.Common.{◌≡◌, ℕ, ◌≤◌, Bool, true, false, ◌||◌, if◌then◌else◌, List, [], ◌∷◌, ◌++◌, length, refl, sym, ap, ◌∙◌, subst, inl, inr, arith, append_assoc, append-nil, length-append}
 use Rattle.iter_syntax.specs.declared.token.Token.{Token}
-use Rattle.iter_syntax.specs.Grammar.{Grammar, token, pair, value, row, many, optional, whole_or_nothing, either, nothing}
-use Rattle.iter_syntax.specs.Form.{Reading, Read, Stuck, bind, Parser, read_token, read_pair, read_value, at_first, read_up_to, read_many, read_optional, read_either, Form, one, both, gives, any, maybe, or, framed, none}
+use Rattle.iter_syntax.specs.Grammar.{Grammar, token, pair, value}
+use Rattle.iter_syntax.specs.Form.{Reading, Read, Stuck, bind, Parser, read_token, read_pair, read_value, at_first}
 
 abbrev pub Tokens : Type 0
 Tokens = List Token

@@ -1,9 +1,9 @@
 -- One form or another, a form or nothing, and larger sets.
-use Rattle.std.proofs.Common.{◌≡◌, ◌≢◌, ℕ, zero, suc, ◌+◌, ◌<◌, ◌≤◌, Bool, true, false, ◌||◌, if◌then◌else◌, List, [], ◌∷◌, ◌++◌, length, refl, sym, ap, ◌∙◌, subst, ◌⊎◌, inl, inr, arith, append_assoc, append-nil, length-append, Option, Some, None}
+use Rattle.std.proofs.Common.{◌≡◌, ℕ, Bool, true, false, ◌||◌, if◌then◌else◌, [], ◌∷◌, ◌++◌, length, refl, sym, ap, ◌∙◌, subst, inl, inr, arith, Option, Some, None}
 use Rattle.iter_syntax.specs.declared.token.Token.{Token}
-use Rattle.iter_syntax.specs.Grammar.{Grammar, token, pair, value, row, many, optional, whole_or_nothing, either, nothing}
-use Rattle.iter_syntax.specs.Form.{Reading, Read, Stuck, bind, Parser, read_token, read_pair, read_value, at_first, read_up_to, read_many, read_optional, read_either, Form, one, both, gives, any, maybe, or, framed, none}
-use Rattle.iter_syntax.proofs.Exact.{Tokens, Off, Fitting, Leaves, Exact, shorter, past_more, nil_left}
+use Rattle.iter_syntax.specs.Grammar.{Grammar, optional, either}
+use Rattle.iter_syntax.specs.Form.{Reading, Read, Stuck, bind, Parser, at_first, read_optional, read_either}
+use Rattle.iter_syntax.proofs.Exact.{Tokens, Off, Fitting, Leaves, Exact, shorter}
 
 -- one form or another
 

@@ -1,13 +1,12 @@
 -- Each production of records, iterators and programs is exact.
-use Rattle.std.proofs.Common.{◌≡◌, ℕ, zero, suc, Bool, true, false, refl}
+use Rattle.std.proofs.Common.{ℕ, refl}
 use Rattle.iter_syntax.specs.declared.tree.Width.TheVariants as D
-use Rattle.iter_syntax.specs.declared.token.Token.{Token}
 use Rattle.iter_syntax.specs.declared.token.Keyword.TheVariants as W
 use Rattle.iter_syntax.specs.declared.token.Symbol.TheVariants as S
-use Rattle.iter_syntax.specs.Form.{Form, one, both, gives, any, maybe, or, framed, none}
+use Rattle.iter_syntax.specs.Form.{any}
 use Rattle.iter_syntax.specs.Productions as P
 use Rattle.iter_syntax.proofs.EachKind.{apart, part}
-use Rattle.iter_syntax.proofs.ExactForm.{IsExact, one_ok, both_ok, gives_ok, any_ok, maybe_ok, or_ok, framed_ok}
+use Rattle.iter_syntax.proofs.ExactForm.{IsExact, one_ok, gives_ok, any_ok, maybe_ok, or_ok, framed_ok}
 use Rattle.iter_syntax.proofs.ExactExpr.{after, symbol_ok, keyword_ok, word_ok, number_ok, brackets_ok}
 use Rattle.iter_syntax.proofs.ExactStmt.{block_ok}
 

@@ -1,20 +1,17 @@
 -- Each production is exact: its parser answers by its grammar.
-use Rattle.std.proofs.Common.{◌≡◌, ℕ, zero, suc, ◌-◌, ◌<◌, ◌≤◌, Bool, true, false, ◌||◌, nat_eq, if◌then◌else◌, List, [], ◌∷◌, refl, sym, ap, ◌∙◌, subst, arith, Option, Some, None}
+use Rattle.std.proofs.Common.{◌≡◌, ℕ, zero, suc, ◌-◌, ◌<◌, ◌≤◌, Bool, true, false, ◌||◌, nat_eq, refl, sym, ap, ◌∙◌, subst, arith, Option, Some, None}
 use Rattle.iter_syntax.specs.declared.tree.BinaryOp.{BinaryOp}
-use Rattle.iter_syntax.specs.declared.tree.FieldUse.{FieldUse}
 use Rattle.iter_syntax.specs.declared.tree.Expr.{Expr}
 use Rattle.iter_syntax.specs.declared.tree.Expr.TheVariants as E
-use Rattle.iter_syntax.specs.declared.tree.Block.{Block}
-use Rattle.iter_syntax.specs.declared.tree.Stmt.{Stmt}
 use Rattle.iter_syntax.specs.declared.token.Token.{Token}
 use Rattle.iter_syntax.specs.declared.token.Keyword.{Keyword}
 use Rattle.iter_syntax.specs.declared.token.Keyword.TheVariants as W
 use Rattle.iter_syntax.specs.declared.token.Symbol.{Symbol}
 use Rattle.iter_syntax.specs.declared.token.Symbol.TheVariants as S
-use Rattle.iter_syntax.specs.Kinds.{is_symbol, is_keyword, is_operator, has_level, kind_operator}
-use Rattle.iter_syntax.specs.Form.{Form, one, both, gives, any, maybe, or, framed, none}
+use Rattle.iter_syntax.specs.Kinds.{is_symbol, is_operator, has_level, kind_operator}
+use Rattle.iter_syntax.specs.Form.{Form, both, none}
 use Rattle.iter_syntax.specs.Productions as P
-use Rattle.iter_syntax.proofs.EachKind.{Each, apart, part}
+use Rattle.iter_syntax.proofs.EachKind.{apart, part}
 use Rattle.iter_syntax.proofs.ExactForm.{IsExact, one_ok, both_ok, gives_ok, any_ok, maybe_ok, or_ok, framed_ok, none_ok}
 
 -- ---- one token

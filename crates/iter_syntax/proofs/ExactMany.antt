@@ -1,9 +1,9 @@
 -- Any number of a form, read as long as one begins.
-use Rattle.std.proofs.Common.{◌≡◌, ◌≢◌, ℕ, zero, suc, ◌+◌, ◌<◌, ◌≤◌, Bool, true, false, ◌||◌, if◌then◌else◌, List, [], ◌∷◌, ◌++◌, length, refl, sym, ap, ◌∙◌, subst, ◌⊎◌, inl, inr, arith, append_assoc, append-nil, length-append, Option, Some, None}
+use Rattle.std.proofs.Common.{◌≡◌, ℕ, zero, suc, ◌≤◌, Bool, true, false, ◌||◌, if◌then◌else◌, List, [], ◌∷◌, ◌++◌, length, refl, sym, ap, ◌∙◌, subst, ◌⊎◌, inl, inr, arith, append_assoc, append-nil, length-append}
 use Rattle.iter_syntax.specs.declared.token.Token.{Token}
-use Rattle.iter_syntax.specs.Grammar.{Grammar, token, pair, value, row, many, optional, whole_or_nothing, either, nothing}
-use Rattle.iter_syntax.specs.Form.{Reading, Read, Stuck, bind, Parser, read_token, read_pair, read_value, at_first, read_up_to, read_many, read_optional, read_either, Form, one, both, gives, any, maybe, or, framed, none}
-use Rattle.iter_syntax.proofs.Exact.{Tokens, Off, Fitting, Leaves, Exact, shorter, past_more, nil_left}
+use Rattle.iter_syntax.specs.Grammar.{Grammar, row, many}
+use Rattle.iter_syntax.specs.Form.{Reading, Read, Stuck, bind, Parser, at_first, read_up_to, read_many}
+use Rattle.iter_syntax.proofs.Exact.{Tokens, Off, Fitting, Leaves, Exact, shorter, past_more}
 
 module _ {A : Type 0} (g : Grammar A) (p : Parser A) (first more : Token → Bool) (r : Exact g p first more false) (apart : (t : Token) → first t ≡ true → more t ≡ false) where
   abbrev more_many : Token → Bool

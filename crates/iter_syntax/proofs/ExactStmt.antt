@@ -1,17 +1,15 @@
 -- Each production of statements and blocks is exact.
-use Rattle.std.proofs.Common.{◌≡◌, ℕ, zero, suc, Bool, true, false, refl}
+use Rattle.std.proofs.Common.{◌≡◌, ℕ, zero, suc, true, false, refl}
 use Rattle.iter_syntax.specs.declared.tree.Expr.{Expr}
-use Rattle.iter_syntax.specs.declared.tree.Block.{Block}
-use Rattle.iter_syntax.specs.declared.tree.Stmt.{Stmt}
 use Rattle.iter_syntax.specs.declared.token.Token.{Token}
 use Rattle.iter_syntax.specs.declared.token.Keyword.{Keyword}
 use Rattle.iter_syntax.specs.declared.token.Keyword.TheVariants as W
 use Rattle.iter_syntax.specs.declared.token.Symbol.TheVariants as S
 use Rattle.iter_syntax.specs.Kinds.{is_symbol, is_keyword}
-use Rattle.iter_syntax.specs.Form.{Form, one, both, gives, any, maybe, or, framed, none}
+use Rattle.iter_syntax.specs.Form.{Form, both, any, none}
 use Rattle.iter_syntax.specs.Productions as P
 use Rattle.iter_syntax.proofs.EachKind.{apart, part}
-use Rattle.iter_syntax.proofs.ExactForm.{IsExact, one_ok, both_ok, gives_ok, any_ok, maybe_ok, or_ok, framed_ok, none_ok}
+use Rattle.iter_syntax.proofs.ExactForm.{IsExact, both_ok, gives_ok, any_ok, maybe_ok, or_ok, framed_ok, none_ok}
 use Rattle.iter_syntax.proofs.ExactExpr.{after, symbol_ok, keyword_ok, word_ok, number_ok, expr_ok, use_ok, unary_ok}
 
 -- no token that begins a statement goes on with one

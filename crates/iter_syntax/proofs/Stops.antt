@@ -1,9 +1,9 @@
 -- The whole of a token list, and the exact place of its fault.
-use Rattle.std.proofs.Common.{◌≡◌, ◌≢◌, ℕ, zero, suc, ◌+◌, ◌<◌, ◌≤◌, Bool, true, false, ◌||◌, if◌then◌else◌, List, [], ◌∷◌, ◌++◌, length, refl, sym, ap, ◌∙◌, subst, ◌⊎◌, inl, inr, arith, append_assoc, append-nil, length-append, Option, Some, None}
+use Rattle.std.proofs.Common.{◌≡◌, Bool, [], ◌∷◌, ◌++◌, length, refl, sym, ap, ◌∙◌, subst, arith, append_assoc, append-nil}
 use Rattle.iter_syntax.specs.declared.token.Token.{Token}
-use Rattle.iter_syntax.specs.Grammar.{Grammar, token, pair, value, row, many, optional, whole_or_nothing, either, nothing}
-use Rattle.iter_syntax.specs.Form.{Reading, Read, Stuck, bind, Parser, read_token, read_pair, read_value, at_first, read_up_to, read_many, read_optional, read_either, Form, one, both, gives, any, maybe, or, framed, none}
-use Rattle.iter_syntax.proofs.Exact.{Tokens, Off, Fitting, Leaves, Exact, shorter, past_more, nil_left}
+use Rattle.iter_syntax.specs.Grammar.{Grammar}
+use Rattle.iter_syntax.specs.Form.{Reading, Read, Stuck, Parser}
+use Rattle.iter_syntax.proofs.Exact.{Tokens, Fitting, Leaves, Exact}
 
 -- the tokens are a whole form with this value; or the first n of them begin one, and no more do
 pub record Stops {A : Type 0} (g : Grammar A) (ts rest : Tokens) : Type 0 where

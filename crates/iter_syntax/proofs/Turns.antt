@@ -1,5 +1,5 @@
 -- How the reading functions take a level, a row or a depth apart.
-use Rattle.std.proofs.Common.{◌≡◌, ℕ, zero, suc, ◌+◌, ◌-◌, ◌<◌, ◌≤◌, Bool, true, false, nat_eq, List, [], ◌∷◌, ◌++◌, length, drop, refl, sym, ap, ◌∙◌, subst, arith, append_assoc, append-nil, Result, Ok, Err}
+use Rattle.std.proofs.Common.{◌≡◌, ℕ, zero, suc, ◌-◌, ◌≤◌, Bool, true, false, nat_eq, List, [], ◌∷◌, ◌++◌, drop, refl, sym, ap, ◌∙◌, subst, arith, append_assoc, append-nil, Result, Ok, Err}
 use Rattle.iter_syntax.specs.declared.tree.Place.{Place}
 use Rattle.iter_syntax.specs.declared.tree.BinaryOp.{BinaryOp}
 use Rattle.iter_syntax.specs.declared.tree.Expr.{Expr}
@@ -12,12 +12,11 @@ use Rattle.iter_syntax.specs.declared.tree.Block.{Block}
 use Rattle.iter_syntax.specs.declared.tree.RecordDecl.{RecordDecl}
 use Rattle.iter_syntax.specs.declared.tree.Iter.{Iter}
 use Rattle.iter_syntax.specs.Kinds.{is_operator, is_keyword}
-use Rattle.iter_syntax.specs.Form.{gives, Form, Parser, Reading, Read, Stuck, bind, at_first, read_value, read_many, both, any}
+use Rattle.iter_syntax.specs.Form.{gives, Form, Parser, Reading, Read, Stuck, bind, at_first, read_many, both, any}
 use Rattle.iter_syntax.specs.Productions as P
-use Rattle.iter_syntax.specs.Reads.{Reads, comparison_rest, chain_rest, after, program_after}
+use Rattle.iter_syntax.specs.Reads.{Reads, chain_rest, after, program_after}
 use Rattle.iter_syntax.proofs.Exact.{Tokens, Exact}
 use Rattle.iter_syntax.proofs.ExactMany.{many_turn, many_done}
-use Rattle.iter_syntax.proofs.ExactForm.{IsExact}
 use Rattle.iter_syntax.proofs.ExactExpr as X
 use Rattle.iter_syntax.proofs.ExactDecl.{decl_ok}
 

@@ -1,12 +1,12 @@
 -- From what the parser leaves of a whole token list to what is said of programs.
 use Rattle.std.specs.Prelude.{slice_get}
-use Rattle.std.proofs.Common.{◌≡◌, ℕ, ◌+◌, ◌<◌, ◌≤◌, zero, suc, List, [], ◌∷◌, ◌++◌, length, take, drop, Some, refl, sym, ap, ◌∙◌, subst, arith, length-append, length-drop}
+use Rattle.std.proofs.Common.{◌≡◌, ℕ, ◌+◌, ◌<◌, ◌≤◌, zero, suc, [], ◌∷◌, ◌++◌, length, take, drop, Some, refl, sym, ap, ◌∙◌, subst, arith, length-append, length-drop}
 use Rattle.std.proofs.lemmas.Grind.{common_steps}
 use Rattle.iter_syntax.specs.declared.token.Token.{Token}
 use Rattle.iter_syntax.specs.declared.tree.Program.{Program}
-use Rattle.iter_syntax.specs.Form.{Form, Reading, Read, Stuck}
+use Rattle.iter_syntax.specs.Form.{Read, Stuck}
 use Rattle.iter_syntax.specs.Productions.{program}
-use Rattle.iter_syntax.specs.Program.{IsProgram, BeginsProgram, StopsAt}
+use Rattle.iter_syntax.specs.Program.{IsProgram, StopsAt}
 use Rattle.iter_syntax.proofs.Exact.{Tokens}
 use Rattle.iter_syntax.proofs.Stops.{Stops, Answers, answers}
 use Rattle.iter_syntax.proofs.ExactDecl.{program_ok}

@@ -1,7 +1,7 @@
 -- A grammar with what reads it by one token ahead: a parser, the tokens that may begin a form,
 -- those that may go on with a whole one, and whether nothing is a whole one.
 -- What a form means is its grammar alone.
-use Rattle.std.specs.Prelude.{ℕ, zero, suc, Bool, true, false, if◌then◌else◌, ◌||◌, List, [], ◌∷◌, ◌++◌, length, Option, Some, None}
+use Rattle.std.specs.Prelude.{ℕ, zero, suc, Bool, true, false, if◌then◌else◌, ◌||◌, List, [], ◌∷◌, length, Option, Some, None}
 use Rattle.iter_syntax.specs.declared.token.Token.{Token}
 use Rattle.iter_syntax.specs.Grammar.{Grammar, token, pair, value, many, optional, either, nothing}
 

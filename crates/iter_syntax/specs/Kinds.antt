@@ -1,7 +1,6 @@
 -- The kinds of tokens that the grammar names.
 use Rattle.std.specs.Prelude.{ℕ, Bool, true, false, ◌&&◌, nat_eq, List, [], ◌∷◌, Option, Some, None}
 use Rattle.iter_syntax.specs.declared.tree.Place.{Place}
-use Rattle.iter_syntax.specs.declared.tree.Word.{Word}
 use Rattle.iter_syntax.specs.declared.tree.BinaryOp.{BinaryOp}
 use Rattle.iter_syntax.specs.declared.tree.BinaryOp.TheVariants as B
 use Rattle.iter_syntax.specs.declared.token.Token.{Token}

@@ -11,3 +11,6 @@ pub mod Deep
 pub mod Reading
 pub mod Tokens
 pub mod Parsed
+pub mod Printed
+pub mod Bare
+pub mod Printing

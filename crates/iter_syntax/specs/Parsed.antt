@@ -1,5 +1,5 @@
 -- The program of a text, and what `parse` answers of it.
-use Rattle.std.specs.Prelude.{◌≡◌, ℕ, List, length, slice_get, Option, Some, None, Result, Ok, Err}
+use Rattle.std.specs.Prelude.{◌≡◌, ◌⊎◌, ℕ, List, length, slice_get, Option, Some, None, Result, Ok, Err}
 use Rattle.iter_syntax.specs.declared.fault.SyntaxFault.{SyntaxFault}
 use Rattle.iter_syntax.specs.declared.fault.SyntaxFault.TheVariants as F
 use Rattle.iter_syntax.specs.declared.token.Token.{Token}
@@ -34,7 +34,8 @@ ParseAnswer text (Err (F.Syntax place)) =
     (ts : List Token) × (number : ℕ) × AreTokens text ts × (deep_place ts ≡ None) × StopsAt ts number × (place ≡ offset_of (length text) (slice_get ts number))
 ParseAnswer text (Err F.Memory) = Unit {0}
 
--- a text has at most one program, and one that has a program has no fault
+-- want of memory aside, a text has at most one program or one fault, and not both
 pub record HasOneProgram (text : List ℕ) : Type 0 where
   pub unique : (p q : Program) → IsProgramOf text p → IsProgramOf text q → p ≡ q
   pub no_fault : (p : Program) (fault : SyntaxFault) → IsProgramOf text p → ParseAnswer text (Err fault) → fault ≡ F.Memory
+  pub one_fault : (f g : SyntaxFault) → ParseAnswer text (Err f) → ParseAnswer text (Err g) → (f ≡ F.Memory) ⊎ (g ≡ F.Memory) ⊎ (f ≡ g)

@@ -1,6 +1,6 @@
 -- The productions of the language, each with the tree that it gives.
 -- A number after a production's name bounds how deep expressions or blocks stand in one another.
-use Rattle.std.specs.Prelude.{ℕ, zero, suc, Bool, true, false, if◌then◌else◌, ◌||◌, nat_eq, List, [], ◌∷◌, Option, Some, None}
+use Rattle.std.specs.Prelude.{ℕ, zero, suc, Bool, true, false, ◌||◌, nat_eq, List, [], ◌∷◌, Option, Some, None}
 use Rattle.iter_syntax.specs.declared.tree.Place.{Place}
 use Rattle.iter_syntax.specs.declared.tree.Word.{Word}
 use Rattle.iter_syntax.specs.declared.tree.BinaryOp.{BinaryOp}
@@ -25,7 +25,7 @@ use Rattle.iter_syntax.specs.declared.token.Keyword.{Keyword}
 use Rattle.iter_syntax.specs.declared.token.Keyword.TheVariants as W
 use Rattle.iter_syntax.specs.declared.token.Symbol.{Symbol}
 use Rattle.iter_syntax.specs.declared.token.Symbol.TheVariants as S
-use Rattle.iter_syntax.specs.Kinds.{is_keyword, is_symbol, is_name, is_next, is_number, is_operator, symbol_operator, kind_operator}
+use Rattle.iter_syntax.specs.Kinds.{is_keyword, is_symbol, is_name, is_next, is_number, is_operator, kind_operator}
 use Rattle.iter_syntax.specs.Form.{Form, one, both, gives, any, maybe, or, framed, none}
 
 -- ---- one token and what it gives

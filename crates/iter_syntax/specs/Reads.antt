@@ -1,5 +1,5 @@
 -- What a reading function answers at a place of the tokens, by the parser of its form.
-use Rattle.std.specs.Prelude.{◌≡◌, ◌≤◌, ℕ, Bool, List, [], ◌∷◌, ◌++◌, length, drop, Result, Ok, Err}
+use Rattle.std.specs.Prelude.{◌≡◌, ◌≤◌, ℕ, Bool, List, ◌∷◌, ◌++◌, length, drop, Result, Ok, Err}
 use Rattle.iter_syntax.specs.declared.token.Token.{Token}
 use Rattle.iter_syntax.specs.declared.parser.reader.Refused.{Refused}
 use Rattle.iter_syntax.specs.declared.parser.reader.Refused.TheVariants.{At, Memory}

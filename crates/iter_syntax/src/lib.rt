@@ -6,6 +6,7 @@
 
 mod fault;
 mod parser;
+mod printed;
 mod spelling;
 mod token;
 mod tokens;
@@ -13,6 +14,7 @@ mod tree;
 
 pub use fault::SyntaxFault;
 pub use parser::parse;
+pub use printed::print;
 pub use token::{Keyword, Symbol, Token, TokenKind};
 pub use tree::{
     Arg, Args, BinaryOp, Block, Expr, FieldDecl, FieldUse, Fields, Iter, Iters, Place, Program,

@@ -5,6 +5,7 @@ use crate::fault::SyntaxFault;
 use crate::tree::{Expr, Place, Program, Stmt};
 use std::alloc::Global;
 use std::process::Abort;
+use std::test::Fail;
 
 // How many records and iterators a text has, or its fault.
 fn count(rt: &impl Abort, alloc: Global, text: &[u8]) -> Result<(usize, usize), SyntaxFault> {
@@ -40,256 +41,209 @@ fn operator_place(expr: &Expr) -> Option<u32> {
     }
 }
 
+// Each text with the offset of its top operator.
+const OPERATORS: [(&[u8], u32); 27] = [
+    (b"iter i on r{pad{}init(){go x || y && z;}end{}next{}}", 29),
+    (b"iter i on r{pad{}init(){go x && y || z;}end{}next{}}", 34),
+    (b"iter i on r{pad{}init(){go x && y >= z;}end{}next{}}", 29),
+    (b"iter i on r{pad{}init(){go x >= y && z;}end{}next{}}", 34),
+    (b"iter i on r{pad{}init(){go x == y ^ z;}end{}next{}}", 29),
+    (b"iter i on r{pad{}init(){go x ^ y == z;}end{}next{}}", 33),
+    (b"iter i on r{pad{}init(){go x & y >> z;}end{}next{}}", 29),
+    (b"iter i on r{pad{}init(){go x >> y & z;}end{}next{}}", 34),
+    (b"iter i on r{pad{}init(){go x << y - z;}end{}next{}}", 29),
+    (b"iter i on r{pad{}init(){go x - y << z;}end{}next{}}", 33),
+    (b"iter i on r{pad{}init(){go x + y % z;}end{}next{}}", 29),
+    (b"iter i on r{pad{}init(){go x % y + z;}end{}next{}}", 33),
+    (b"iter i on r{pad{}init(){go x || y || z;}end{}next{}}", 34),
+    (b"iter i on r{pad{}init(){go x && y && z;}end{}next{}}", 34),
+    (b"iter i on r{pad{}init(){go x & y ^ z;}end{}next{}}", 33),
+    (b"iter i on r{pad{}init(){go x << y >> z;}end{}next{}}", 34),
+    (b"iter i on r{pad{}init(){go x + y - z;}end{}next{}}", 33),
+    (b"iter i on r{pad{}init(){go x * y % z;}end{}next{}}", 33),
+    (b"iter i on r{pad{}init(){go x - (y - z);}end{}next{}}", 29),
+    (
+        b"iter i on r{pad{}init(){go ((x - y)) - z;}end{}next{}}",
+        37,
+    ),
+    (b"iter i on r{pad{}init(){go !x - ~y;}end{}next{}}", 30),
+    (b"iter i on r{pad{}init(){go x == y;}end{}next{}}", 29),
+    (b"iter i on r{pad{}init(){go x != y;}end{}next{}}", 29),
+    (b"iter i on r{pad{}init(){go x < y;}end{}next{}}", 29),
+    (b"iter i on r{pad{}init(){go x <= y;}end{}next{}}", 29),
+    (b"iter i on r{pad{}init(){go x > y;}end{}next{}}", 29),
+    (b"iter i on r{pad{}init(){go x >= y;}end{}next{}}", 29),
+];
+
 #[test]
-fn operators_group_by_level_and_to_the_left(rt: HostRuntime) {
-    let cases: [(&[u8], u32); 27] = [
-        (b"iter i on r{pad{}init(){go x || y && z;}end{}next{}}", 29),
-        (b"iter i on r{pad{}init(){go x && y || z;}end{}next{}}", 34),
-        (b"iter i on r{pad{}init(){go x && y >= z;}end{}next{}}", 29),
-        (b"iter i on r{pad{}init(){go x >= y && z;}end{}next{}}", 34),
-        (b"iter i on r{pad{}init(){go x == y ^ z;}end{}next{}}", 29),
-        (b"iter i on r{pad{}init(){go x ^ y == z;}end{}next{}}", 33),
-        (b"iter i on r{pad{}init(){go x & y >> z;}end{}next{}}", 29),
-        (b"iter i on r{pad{}init(){go x >> y & z;}end{}next{}}", 34),
-        (b"iter i on r{pad{}init(){go x << y - z;}end{}next{}}", 29),
-        (b"iter i on r{pad{}init(){go x - y << z;}end{}next{}}", 33),
-        (b"iter i on r{pad{}init(){go x + y % z;}end{}next{}}", 29),
-        (b"iter i on r{pad{}init(){go x % y + z;}end{}next{}}", 33),
-        (b"iter i on r{pad{}init(){go x || y || z;}end{}next{}}", 34),
-        (b"iter i on r{pad{}init(){go x && y && z;}end{}next{}}", 34),
-        (b"iter i on r{pad{}init(){go x & y ^ z;}end{}next{}}", 33),
-        (b"iter i on r{pad{}init(){go x << y >> z;}end{}next{}}", 34),
-        (b"iter i on r{pad{}init(){go x + y - z;}end{}next{}}", 33),
-        (b"iter i on r{pad{}init(){go x * y % z;}end{}next{}}", 33),
-        (b"iter i on r{pad{}init(){go x - (y - z);}end{}next{}}", 29),
-        (
-            b"iter i on r{pad{}init(){go ((x - y)) - z;}end{}next{}}",
-            37,
-        ),
-        (b"iter i on r{pad{}init(){go !x - ~y;}end{}next{}}", 30),
-        (b"iter i on r{pad{}init(){go x == y;}end{}next{}}", 29),
-        (b"iter i on r{pad{}init(){go x != y;}end{}next{}}", 29),
-        (b"iter i on r{pad{}init(){go x < y;}end{}next{}}", 29),
-        (b"iter i on r{pad{}init(){go x <= y;}end{}next{}}", 29),
-        (b"iter i on r{pad{}init(){go x > y;}end{}next{}}", 29),
-        (b"iter i on r{pad{}init(){go x >= y;}end{}next{}}", 29),
-    ];
-    for (text, place) in cases {
+fn operators_group_by_level_and_to_the_left(rt: HostRuntime) -> Result<(), Fail> {
+    for (text, place) in OPERATORS {
         assert!(rt; text.len() <= 65536);
-        match parse(rt.alloc(), text) {
-            Ok(program) => assert_eq!(rt; top_operator(&program), Some(place)),
-            Err(_) => assert!(rt; false),
-        }
+        let program = parse(rt.alloc(), text)?;
+        assert_eq!(rt; top_operator(&program), Some(place));
+    }
+    Ok(())
+}
+
+// Each text with the numbers of its records and iterators.
+const PROGRAMS: [(&[u8], usize, usize); 24] = [
+    (b"", 0, 0),
+    (b"record r{}", 1, 0),
+    (b"record r{a:u8;b:u16;c:u32;d:u64;e:ptr;f:[u8;4];}", 1, 0),
+    (b"iter i on r{pad{}init(){} end{}next{}}", 0, 1),
+    (
+        b"record r{}iter i on r{pad{}init(){} end{}next{}}record s{}iter i on r{pad{}init(){} end{}next{}}",
+        2,
+        2,
+    ),
+    (
+        b"iter i on r{pad{a:u64;}init(a:int,b:ptr){}end{}next{}}",
+        0,
+        1,
+    ),
+    (b"iter next on next{pad{}init(){}end{}next{}}", 0, 1),
+    (b"iter i on r{pad{}init(){let x=1;}end{}next{}}", 0, 1),
+    (b"iter i on r{pad{}init(){x=null;}end{}next{}}", 0, 1),
+    (b"iter i on r{pad{}init(){pad.a=cur;}end{}next{}}", 0, 1),
+    (
+        b"iter i on r{pad{}init(){pad.a[1]=cur.b[2];}end{}next{}}",
+        0,
+        1,
+    ),
+    (b"iter i on r{pad{}init(){cur.a=pad.b;}end{}next{}}", 0, 1),
+    (
+        b"iter i on r{pad{}init(){cur.a[i]=at(x,1);}end{}next{}}",
+        0,
+        1,
+    ),
+    (b"iter i on r{pad{}init(){if x{}}end{}next{}}", 0, 1),
+    (b"iter i on r{pad{}init(){if x{}else{}}end{}next{}}", 0, 1),
+    (
+        b"iter i on r{pad{}init(){if x{if y{}else{}}}end{}next{}}",
+        0,
+        1,
+    ),
+    (
+        b"iter i on r{pad{}init(){for i in 0..9{}}end{}next{}}",
+        0,
+        1,
+    ),
+    (b"iter i on r{pad{}init(){done;}end{}next{}}", 0, 1),
+    (b"iter i on r{pad{}init(){go x;}end{}next{}}", 0, 1),
+    (b"iter i on r{pad{}init(){go !~!x;}end{}next{}}", 0, 1),
+    (b"iter i on r{pad{}init(){go ((x));}end{}next{}}", 0, 1),
+    (b"iter i on r{pad{}init(){x=1==2;}end{}next{}}", 0, 1),
+    (b"iter i on r{pad{}init(){next=next;}end{}next{}}", 0, 1),
+    (b"  # nothing", 0, 0),
+];
+
+#[test]
+fn each_production_is_a_program(rt: HostRuntime) {
+    for (text, records, iters) in PROGRAMS {
+        assert_eq!(rt; count(&rt, rt.alloc(), text), Ok((records, iters)));
+    }
+}
+
+// Each text with the offset at which it stops being a beginning: declarations that are none.
+const DECLARATIONS: [(&[u8], u32); 19] = [
+    (b"x", 0),
+    (b"record", 6),
+    (b"record r", 8),
+    (b"record r{", 9),
+    (b"record r{a", 10),
+    (b"record r{}}", 10),
+    (b"record r{a:int;}", 11),
+    (b"record r{a:u8}", 13),
+    (b"record r{a:[u8]}", 14),
+    (b"record r{a:[u8;n];}", 15),
+    (b"record if{}", 7),
+    (b"iter i on r{pad{}init(){}end{}}", 30),
+    (b"iter i on r{pad{}init(a:u8){}end{}next{}}", 24),
+    (b"iter i on r{pad{}init(,){}end{}next{}}", 22),
+    (b"iter i on r{pad{}init(a:int,){}end{}next{}}", 28),
+    (b"iter i on r{init(){}end{}next{}}", 12),
+    (b"iter i on r{pad{}init(){}end{}after{}}", 30),
+    (b"  record # r", 12),
+    (b"record r{}  }", 12),
+];
+
+#[test]
+fn a_declaration_stops_at_one_place(rt: HostRuntime) {
+    for (text, place) in DECLARATIONS {
+        assert_eq!(rt;
+            count(&rt, rt.alloc(), text),
+            Err(SyntaxFault::Syntax(place))
+        );
+    }
+}
+
+// Each text with the offset at which it stops being a beginning: statements that are none.
+const STATEMENTS: [(&[u8], u32); 14] = [
+    (b"iter i on r{pad{}init(){let 1=1;}end{}next{}}", 28),
+    (b"iter i on r{pad{}init(){x=1}end{}next{}}", 27),
+    (b"iter i on r{pad{}init(){x 1;}end{}next{}}", 26),
+    (b"iter i on r{pad{}init(){pad=1;}end{}next{}}", 27),
+    (b"iter i on r{pad{}init(){cur=1;}end{}next{}}", 27),
+    (b"iter i on r{pad{}init(){cur.1=1;}end{}next{}}", 28),
+    (b"iter i on r{pad{}init(){if x done;}end{}next{}}", 29),
+    (b"iter i on r{pad{}init(){else{}}end{}next{}}", 24),
+    (b"iter i on r{pad{}init(){for i in x..9{}}end{}next{}}", 33),
+    (b"iter i on r{pad{}init(){for i in 0..x{}}end{}next{}}", 36),
+    (b"iter i on r{pad{}init(){for i of 0..9{}}end{}next{}}", 30),
+    (b"iter i on r{pad{}init(){done}end{}next{}}", 28),
+    (b"iter i on r{pad{}init(){go;}end{}next{}}", 26),
+    (b"iter i on r{pad{}init(){int=1;}end{}next{}}", 24),
+];
+
+#[test]
+fn a_statement_stops_at_one_place(rt: HostRuntime) {
+    for (text, place) in STATEMENTS {
+        assert_eq!(rt;
+            count(&rt, rt.alloc(), text),
+            Err(SyntaxFault::Syntax(place))
+        );
+    }
+}
+
+// Each text with the offset at which it stops being a beginning: expressions that are none.
+const EXPRESSIONS: [(&[u8], u32); 11] = [
+    (b"iter i on r{pad{}init(){go x y;}end{}next{}}", 29),
+    (b"iter i on r{pad{}init(){go (x;}end{}next{}}", 29),
+    (b"iter i on r{pad{}init(){go x);}end{}next{}}", 28),
+    (b"iter i on r{pad{}init(){go x==y==z;}end{}next{}}", 31),
+    (b"iter i on r{pad{}init(){go x<y>=z;}end{}next{}}", 30),
+    (b"iter i on r{pad{}init(){go at(x);}end{}next{}}", 31),
+    (b"iter i on r{pad{}init(){go pad;}end{}next{}}", 30),
+    (b"iter i on r{pad{}init(){go x[1];}end{}next{}}", 28),
+    (b"iter i on r{pad{}init(){go cur.x[1;}end{}next{}}", 34),
+    (b"iter i on r{pad{}init(){go 1+;}end{}next{}}", 29),
+    (b"iter i on r{pad{}init(){go x!y;}end{}next{}}", 28),
+];
+
+#[test]
+fn an_expression_stops_at_one_place(rt: HostRuntime) {
+    for (text, place) in EXPRESSIONS {
+        assert_eq!(rt;
+            count(&rt, rt.alloc(), text),
+            Err(SyntaxFault::Syntax(place))
+        );
     }
 }
 
 #[test]
-fn a_text_is_a_program_or_stops_at_one_place(rt: HostRuntime) {
-    let cases: [(&[u8], Result<(usize, usize), SyntaxFault>); 70] = [
-        (b"", Ok((0, 0))),
-        (b"record r{}", Ok((1, 0))),
-        (
-            b"record r{a:u8;b:u16;c:u32;d:u64;e:ptr;f:[u8;4];}",
-            Ok((1, 0)),
-        ),
-        (b"iter i on r{pad{}init(){} end{}next{}}", Ok((0, 1))),
-        (
-            b"record r{}iter i on r{pad{}init(){} end{}next{}}record s{}iter i on r{pad{}init(){} end{}next{}}",
-            Ok((2, 2)),
-        ),
-        (
-            b"iter i on r{pad{a:u64;}init(a:int,b:ptr){}end{}next{}}",
-            Ok((0, 1)),
-        ),
-        (b"iter next on next{pad{}init(){}end{}next{}}", Ok((0, 1))),
-        (b"iter i on r{pad{}init(){let x=1;}end{}next{}}", Ok((0, 1))),
-        (b"iter i on r{pad{}init(){x=null;}end{}next{}}", Ok((0, 1))),
-        (
-            b"iter i on r{pad{}init(){pad.a=cur;}end{}next{}}",
-            Ok((0, 1)),
-        ),
-        (
-            b"iter i on r{pad{}init(){pad.a[1]=cur.b[2];}end{}next{}}",
-            Ok((0, 1)),
-        ),
-        (
-            b"iter i on r{pad{}init(){cur.a=pad.b;}end{}next{}}",
-            Ok((0, 1)),
-        ),
-        (
-            b"iter i on r{pad{}init(){cur.a[i]=at(x,1);}end{}next{}}",
-            Ok((0, 1)),
-        ),
-        (b"iter i on r{pad{}init(){if x{}}end{}next{}}", Ok((0, 1))),
-        (
-            b"iter i on r{pad{}init(){if x{}else{}}end{}next{}}",
-            Ok((0, 1)),
-        ),
-        (
-            b"iter i on r{pad{}init(){if x{if y{}else{}}}end{}next{}}",
-            Ok((0, 1)),
-        ),
-        (
-            b"iter i on r{pad{}init(){for i in 0..9{}}end{}next{}}",
-            Ok((0, 1)),
-        ),
-        (b"iter i on r{pad{}init(){done;}end{}next{}}", Ok((0, 1))),
-        (b"iter i on r{pad{}init(){go x;}end{}next{}}", Ok((0, 1))),
-        (b"iter i on r{pad{}init(){go !~!x;}end{}next{}}", Ok((0, 1))),
-        (
-            b"iter i on r{pad{}init(){go ((x));}end{}next{}}",
-            Ok((0, 1)),
-        ),
-        (b"iter i on r{pad{}init(){x=1==2;}end{}next{}}", Ok((0, 1))),
-        (
-            b"iter i on r{pad{}init(){next=next;}end{}next{}}",
-            Ok((0, 1)),
-        ),
-        (b"x", Err(SyntaxFault::Syntax(0))),
-        (b"record", Err(SyntaxFault::Syntax(6))),
-        (b"record r", Err(SyntaxFault::Syntax(8))),
-        (b"record r{", Err(SyntaxFault::Syntax(9))),
-        (b"record r{a", Err(SyntaxFault::Syntax(10))),
-        (b"record r{}}", Err(SyntaxFault::Syntax(10))),
-        (b"record r{a:int;}", Err(SyntaxFault::Syntax(11))),
-        (b"record r{a:u8}", Err(SyntaxFault::Syntax(13))),
-        (b"record r{a:[u8]}", Err(SyntaxFault::Syntax(14))),
-        (b"record r{a:[u8;n];}", Err(SyntaxFault::Syntax(15))),
-        (b"record if{}", Err(SyntaxFault::Syntax(7))),
-        (
-            b"iter i on r{pad{}init(){}end{}}",
-            Err(SyntaxFault::Syntax(30)),
-        ),
-        (
-            b"iter i on r{pad{}init(a:u8){}end{}next{}}",
-            Err(SyntaxFault::Syntax(24)),
-        ),
-        (
-            b"iter i on r{pad{}init(,){}end{}next{}}",
-            Err(SyntaxFault::Syntax(22)),
-        ),
-        (
-            b"iter i on r{pad{}init(a:int,){}end{}next{}}",
-            Err(SyntaxFault::Syntax(28)),
-        ),
-        (
-            b"iter i on r{init(){}end{}next{}}",
-            Err(SyntaxFault::Syntax(12)),
-        ),
-        (
-            b"iter i on r{pad{}init(){}end{}after{}}",
-            Err(SyntaxFault::Syntax(30)),
-        ),
-        (
-            b"iter i on r{pad{}init(){let 1=1;}end{}next{}}",
-            Err(SyntaxFault::Syntax(28)),
-        ),
-        (
-            b"iter i on r{pad{}init(){x=1}end{}next{}}",
-            Err(SyntaxFault::Syntax(27)),
-        ),
-        (
-            b"iter i on r{pad{}init(){x 1;}end{}next{}}",
-            Err(SyntaxFault::Syntax(26)),
-        ),
-        (
-            b"iter i on r{pad{}init(){pad=1;}end{}next{}}",
-            Err(SyntaxFault::Syntax(27)),
-        ),
-        (
-            b"iter i on r{pad{}init(){cur=1;}end{}next{}}",
-            Err(SyntaxFault::Syntax(27)),
-        ),
-        (
-            b"iter i on r{pad{}init(){cur.1=1;}end{}next{}}",
-            Err(SyntaxFault::Syntax(28)),
-        ),
-        (
-            b"iter i on r{pad{}init(){if x done;}end{}next{}}",
-            Err(SyntaxFault::Syntax(29)),
-        ),
-        (
-            b"iter i on r{pad{}init(){else{}}end{}next{}}",
-            Err(SyntaxFault::Syntax(24)),
-        ),
-        (
-            b"iter i on r{pad{}init(){for i in x..9{}}end{}next{}}",
-            Err(SyntaxFault::Syntax(33)),
-        ),
-        (
-            b"iter i on r{pad{}init(){for i in 0..x{}}end{}next{}}",
-            Err(SyntaxFault::Syntax(36)),
-        ),
-        (
-            b"iter i on r{pad{}init(){for i of 0..9{}}end{}next{}}",
-            Err(SyntaxFault::Syntax(30)),
-        ),
-        (
-            b"iter i on r{pad{}init(){done}end{}next{}}",
-            Err(SyntaxFault::Syntax(28)),
-        ),
-        (
-            b"iter i on r{pad{}init(){go;}end{}next{}}",
-            Err(SyntaxFault::Syntax(26)),
-        ),
-        (
-            b"iter i on r{pad{}init(){go x y;}end{}next{}}",
-            Err(SyntaxFault::Syntax(29)),
-        ),
-        (
-            b"iter i on r{pad{}init(){go (x;}end{}next{}}",
-            Err(SyntaxFault::Syntax(29)),
-        ),
-        (
-            b"iter i on r{pad{}init(){go x);}end{}next{}}",
-            Err(SyntaxFault::Syntax(28)),
-        ),
-        (
-            b"iter i on r{pad{}init(){go x==y==z;}end{}next{}}",
-            Err(SyntaxFault::Syntax(31)),
-        ),
-        (
-            b"iter i on r{pad{}init(){go x<y>=z;}end{}next{}}",
-            Err(SyntaxFault::Syntax(30)),
-        ),
-        (
-            b"iter i on r{pad{}init(){go at(x);}end{}next{}}",
-            Err(SyntaxFault::Syntax(31)),
-        ),
-        (
-            b"iter i on r{pad{}init(){go pad;}end{}next{}}",
-            Err(SyntaxFault::Syntax(30)),
-        ),
-        (
-            b"iter i on r{pad{}init(){go x[1];}end{}next{}}",
-            Err(SyntaxFault::Syntax(28)),
-        ),
-        (
-            b"iter i on r{pad{}init(){go cur.x[1;}end{}next{}}",
-            Err(SyntaxFault::Syntax(34)),
-        ),
-        (
-            b"iter i on r{pad{}init(){go 1+;}end{}next{}}",
-            Err(SyntaxFault::Syntax(29)),
-        ),
-        (
-            b"iter i on r{pad{}init(){go x!y;}end{}next{}}",
-            Err(SyntaxFault::Syntax(28)),
-        ),
-        (
-            b"iter i on r{pad{}init(){int=1;}end{}next{}}",
-            Err(SyntaxFault::Syntax(24)),
-        ),
-        (b"  # nothing", Ok((0, 0))),
-        (b"  record # r", Err(SyntaxFault::Syntax(12))),
-        (b"} record r {} $", Err(SyntaxFault::Lex(14))),
-        (b"record r{}  }", Err(SyntaxFault::Syntax(12))),
+fn lex_goes_before_deep_and_deep_before_syntax(rt: HostRuntime) {
+    let cases: [(&[u8], SyntaxFault); 3] = [
+        (b"} record r {} $", SyntaxFault::Lex(14)),
         (
             b"x ((((((((((((((((((((((((((((((((((",
-            Err(SyntaxFault::Deep(34)),
+            SyntaxFault::Deep(34),
+        ),
+        (
+            b"x (((((((((((((((((((((((((((((((((( $",
+            SyntaxFault::Lex(37),
         ),
     ];
-    for (text, expected) in cases {
-        assert_eq!(rt; count(&rt, rt.alloc(), text), expected);
+    for (text, fault) in cases {
+        assert_eq!(rt; count(&rt, rt.alloc(), text), Err(fault));
     }
 }

@@ -1,4 +1,4 @@
-use Rattle.std.proofs.Common.{◌≡◌, length, subst}
+use Rattle.std.proofs.Common.{length, subst}
 use Rattle.iter_syntax.specs.Parsed.{TokensParsed}
 use Rattle.iter_syntax.proofs.OneProgram.{one_program, text_parsed}
 use Rattle.iter_syntax.proofs.parser.parse.Goals as goal

@@ -1,4 +1,4 @@
-use Rattle.std.proofs.Common.{◌≡◌, ◌≤◌, ◌+◌, ◌<◌, drop, length, refl, sym, ap, ◌∙◌, arith}
+use Rattle.std.proofs.Common.{arith}
 use Rattle.iter_syntax.proofs.Whole.{stop_is, more_is, program_is}
 use Rattle.iter_syntax.proofs.parser.parse_tokens.Goals as goal
 
