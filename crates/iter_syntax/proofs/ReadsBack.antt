@@ -1,14 +1,13 @@
 -- The printed form of a text's program is a text that has that program.
-use Rattle.iter_syntax.specs.declared.tree.Program.{Program}
-use Rattle.iter_syntax.specs.Printed.{program_kinds}
-use Rattle.iter_syntax.specs.Bare.{ReadsBack}
-use Rattle.iter_syntax.proofs.ProgramFits.{program_fits}
-use Rattle.iter_syntax.proofs.PrintedText.{text_tokens}
-use Rattle.iter_syntax.proofs.PrintedProgram.{program_back}
-
-pub reads_back : (p : Program) → ReadsBack p
-reads_back p text h =
-    let f = program_fits text p h in
-    let t = text_tokens (program_kinds p) f.spelled in
-    let b = program_back p t.0 t.2 in
-    (b.0, (t.0, t.1, f.shallow t.0 t.2, b.1), b.2)
+pub mod Spelling
+pub mod Text
+pub mod Forms
+pub mod Levels
+pub mod Use
+pub mod Expr
+pub mod Stmt
+pub mod Block
+pub mod Decl
+pub mod Program
+pub mod ProgramFits
+pub mod Law

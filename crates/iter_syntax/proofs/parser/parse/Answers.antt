@@ -1,6 +1,6 @@
 use Rattle.std.proofs.Common.{length, subst}
 use Rattle.iter_syntax.specs.Parsed.{TokensParsed}
-use Rattle.iter_syntax.proofs.OneProgram.{one_program, text_parsed}
+use Rattle.iter_syntax.proofs.Grammar.OneProgram.{one_program, text_parsed}
 use Rattle.iter_syntax.proofs.parser.parse.Goals as goal
 
 pub returns-in-Ok-clause-answer : goal.returns-in-Ok-clause-answer

@@ -1,5 +1,5 @@
 use Rattle.std.proofs.Common.{arith}
-use Rattle.iter_syntax.proofs.Whole.{stop_is, more_is, program_is}
+use Rattle.iter_syntax.proofs.Grammar.Whole.{stop_is, more_is, program_is}
 use Rattle.iter_syntax.proofs.parser.parse_tokens.Goals as goal
 
 pub returns-in-Err-At : goal.returns-in-Err-At

@@ -2,7 +2,7 @@ use Rattle.std.proofs.Common.{ap, ◌∙◌}
 use Rattle.iter_syntax.specs.Printed.{in_order}
 use Rattle.iter_syntax.specs.Printing.{add_each, add_decl}
 use Rattle.iter_syntax.proofs.Printing.{program_is}
-use Rattle.iter_syntax.proofs.ReadsBack.{reads_back}
+use Rattle.iter_syntax.proofs.ReadsBack.Law.{reads_back}
 use Rattle.iter_syntax.proofs.printed.print.Goals as goal
 
 pub returns-in_err-put_program-clause-reads_back : goal.returns-in_err-put_program-clause-reads_back

@@ -1,5 +1,5 @@
 use Rattle.std.proofs.Common.{refl}
-use Rattle.iter_syntax.proofs.Steps.{read_none, read_step, read_stuck}
+use Rattle.iter_syntax.proofs.Lexing.Steps.{read_none, read_step, read_stuck}
 use Rattle.iter_syntax.proofs.tokens.read_tokens.Goals as goal
 
 pub loop-at-init : goal.loop-at-init

@@ -1,4 +1,4 @@
-use Rattle.iter_syntax.proofs.OneReading.{one_reading}
+use Rattle.iter_syntax.proofs.Lexing.OneReading.{one_reading}
 use Rattle.iter_syntax.proofs.tokens.tokens.Goals as goal
 
 pub returns-in-Err-clause-one_reading : goal.returns-in-Err-clause-one_reading

@@ -2,7 +2,7 @@ use Rattle.std.proofs.Common.{drop, sym, ap, ◌∙◌, arith}
 use Rattle.iter_syntax.specs.Form.{any}
 use Rattle.iter_syntax.specs.Productions as P
 use Rattle.iter_syntax.specs.Reads.{program_after}
-use Rattle.iter_syntax.proofs.Turns.{record_turn, iter_turn}
+use Rattle.iter_syntax.proofs.Grammar.Turns.{record_turn, iter_turn}
 use Rattle.iter_syntax.proofs.parser.decl.read_program.Goals as goal
 
 pub row-preserved-in-Ok : goal.row-preserved-in-Ok

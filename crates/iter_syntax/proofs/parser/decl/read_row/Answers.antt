@@ -2,8 +2,8 @@ use Rattle.std.proofs.Common.{drop, refl, sym, ap, ◌∙◌, arith}
 use Rattle.iter_syntax.specs.Form.{any}
 use Rattle.iter_syntax.specs.Productions as P
 use Rattle.iter_syntax.specs.Reads.{after}
-use Rattle.iter_syntax.proofs.ExactDecl.{field_ok}
-use Rattle.iter_syntax.proofs.Turns.{row_turn}
+use Rattle.iter_syntax.proofs.Grammar.ExactDecl.{field_ok}
+use Rattle.iter_syntax.proofs.Grammar.Turns.{row_turn}
 use Rattle.iter_syntax.proofs.parser.decl.read_row.Goals as goal
 
 pub row-preserved : goal.row-preserved

@@ -1,7 +1,7 @@
 use Rattle.std.proofs.Common.{◌-◌, drop, sym, ap, ◌∙◌, arith}
 use Rattle.iter_syntax.specs.Productions as P
 use Rattle.iter_syntax.specs.Reads.{chain_rest}
-use Rattle.iter_syntax.proofs.Turns.{unary_reads, level_reads, level_refused, chain_turn}
+use Rattle.iter_syntax.proofs.Grammar.Turns.{unary_reads, level_reads, level_refused, chain_turn}
 use Rattle.iter_syntax.proofs.parser.expr.+expr.Goals as goal
 
 pub read_level-returns-else-level-eq-COMPARISON-clause-reads :

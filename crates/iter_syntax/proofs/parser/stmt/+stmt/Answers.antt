@@ -2,8 +2,8 @@ use Rattle.std.proofs.Common.{drop, sym, ap, ◌∙◌, arith}
 use Rattle.iter_syntax.specs.Form.{any}
 use Rattle.iter_syntax.specs.Productions as P
 use Rattle.iter_syntax.specs.Reads.{after}
-use Rattle.iter_syntax.proofs.ExactStmt.{block_ok, stmt_ok, stmt_off}
-use Rattle.iter_syntax.proofs.Turns.{row_turn, block_reads}
+use Rattle.iter_syntax.proofs.Grammar.ExactStmt.{block_ok, stmt_ok, stmt_off}
+use Rattle.iter_syntax.proofs.Grammar.Turns.{row_turn, block_reads}
 use Rattle.iter_syntax.proofs.parser.stmt.+stmt.Goals as goal
 
 pub read_block-returns-clause-reads : goal.read_block-returns-clause-reads

@@ -1,4 +1,4 @@
-use Rattle.iter_syntax.proofs.Reading.{number_inside, symbol_inside}
+use Rattle.iter_syntax.proofs.Lexing.Reading.{number_inside, symbol_inside}
 use Rattle.iter_syntax.proofs.tokens.front.front_token.Goals as goal
 
 pub returns-then-is_ascii_digit-clause-inside : goal.returns-then-is_ascii_digit-clause-inside
