@@ -45,12 +45,12 @@ pub fn iterate(context: &mut Context, image: &Image, bytes: &mut [u8], writable:
     let code = image.body_code.as_slice();
     match run_whole(code, bytes, &mut pad[..size], context.cur, writable) {
         Stop::Done => {
-            context.pad = PadBytes::of(&pad[..size]);
+            context.pad.put(&pad[..size]);
             Ended::Done
         }
         Stop::Go(to) => {
             context.cur = to;
-            context.pad = PadBytes::of(&pad[..size]);
+            context.pad.put(&pad[..size]);
             Ended::Go
         }
         Stop::NotWritable => Ended::NotWritable,

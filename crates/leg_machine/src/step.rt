@@ -44,6 +44,36 @@ pub enum Step {
     Held,
 }
 
+// The instruction's change, and on to the next place.
+macro_rules! on {
+    ($place:expr, $change:expr) => {{
+        $change;
+        Step::On($place + 1)
+    }};
+}
+
+// A division, and on to the next place; or the fault, where it answers that its divisor is zero.
+macro_rules! on_or_zero {
+    ($place:expr, $divides:expr) => {{
+        if $divides {
+            Step::On($place + 1)
+        } else {
+            Step::DivZero
+        }
+    }};
+}
+
+// On to the target where the test holds, and otherwise to the next place.
+macro_rules! jump {
+    ($place:expr, $to:expr, $test:expr) => {{
+        if $test {
+            Step::On($to as usize)
+        } else {
+            Step::On($place + 1)
+        }
+    }};
+}
+
 /// The instruction at a place past the first one of the code.
 #[inline(always)]
 pub fn take_step(
@@ -64,121 +94,34 @@ pub fn take_step(
 {
     match i {
         Instr::Load { .. } => unreachable!(),
-        Instr::GetW { a, w, off } => {
-            load_window(regs, bytes, a, w, off);
-            Step::On(place + 1)
-        }
+        Instr::GetW { a, w, off } => on!(place, load_window(regs, bytes, a, w, off)),
         Instr::PutW { a, w, off } => match visit.stores {
             Stores::Refused => Step::NotWritable,
             Stores::Held => Step::Held,
-            Stores::Granted => {
-                store_window(regs, bytes, a, w, off);
-                Step::On(place + 1)
-            }
+            Stores::Granted => on!(place, store_window(regs, bytes, a, w, off)),
         },
-        Instr::GetP { a, w, off } => {
-            load_pad(regs, pad, a, w, off);
-            Step::On(place + 1)
-        }
-        Instr::PutP { a, w, off } => {
-            store_pad(regs, pad, a, w, off);
-            Step::On(place + 1)
-        }
-        Instr::GetC { a } => {
-            regs[a as usize] = visit.cur;
-            Step::On(place + 1)
-        }
-        Instr::SetL { a, imm } => {
-            set_low(regs, a, imm);
-            Step::On(place + 1)
-        }
-        Instr::SetH { a, imm } => {
-            set_high(regs, a, imm);
-            Step::On(place + 1)
-        }
-        Instr::Mov { a, b } => {
-            copy(regs, a, b);
-            Step::On(place + 1)
-        }
-        Instr::Add { a, b, c } => {
-            add(regs, a, b, c);
-            Step::On(place + 1)
-        }
-        Instr::Sub { a, b, c } => {
-            subtract(regs, a, b, c);
-            Step::On(place + 1)
-        }
-        Instr::Mul { a, b, c } => {
-            multiply(regs, a, b, c);
-            Step::On(place + 1)
-        }
-        Instr::Div { a, b, c } => {
-            if divide(regs, a, b, c) {
-                Step::On(place + 1)
-            } else {
-                Step::DivZero
-            }
-        }
-        Instr::Mod { a, b, c } => {
-            if remainder(regs, a, b, c) {
-                Step::On(place + 1)
-            } else {
-                Step::DivZero
-            }
-        }
-        Instr::And { a, b, c } => {
-            both_bits(regs, a, b, c);
-            Step::On(place + 1)
-        }
-        Instr::Or { a, b, c } => {
-            either_bits(regs, a, b, c);
-            Step::On(place + 1)
-        }
-        Instr::Xor { a, b, c } => {
-            unlike_bits(regs, a, b, c);
-            Step::On(place + 1)
-        }
-        Instr::Not { a, b } => {
-            complement(regs, a, b);
-            Step::On(place + 1)
-        }
-        Instr::Shl { a, b, c } => {
-            shift_left(regs, a, b, c);
-            Step::On(place + 1)
-        }
-        Instr::Shr { a, b, c } => {
-            shift_right(regs, a, b, c);
-            Step::On(place + 1)
-        }
+        Instr::GetP { a, w, off } => on!(place, load_pad(regs, pad, a, w, off)),
+        Instr::PutP { a, w, off } => on!(place, store_pad(regs, pad, a, w, off)),
+        Instr::GetC { a } => on!(place, regs[a as usize] = visit.cur),
+        Instr::SetL { a, imm } => on!(place, set_low(regs, a, imm)),
+        Instr::SetH { a, imm } => on!(place, set_high(regs, a, imm)),
+        Instr::Mov { a, b } => on!(place, copy(regs, a, b)),
+        Instr::Add { a, b, c } => on!(place, add(regs, a, b, c)),
+        Instr::Sub { a, b, c } => on!(place, subtract(regs, a, b, c)),
+        Instr::Mul { a, b, c } => on!(place, multiply(regs, a, b, c)),
+        Instr::Div { a, b, c } => on_or_zero!(place, divide(regs, a, b, c)),
+        Instr::Mod { a, b, c } => on_or_zero!(place, remainder(regs, a, b, c)),
+        Instr::And { a, b, c } => on!(place, both_bits(regs, a, b, c)),
+        Instr::Or { a, b, c } => on!(place, either_bits(regs, a, b, c)),
+        Instr::Xor { a, b, c } => on!(place, unlike_bits(regs, a, b, c)),
+        Instr::Not { a, b } => on!(place, complement(regs, a, b)),
+        Instr::Shl { a, b, c } => on!(place, shift_left(regs, a, b, c)),
+        Instr::Shr { a, b, c } => on!(place, shift_right(regs, a, b, c)),
         Instr::Jmp { to } => Step::On(to as usize),
-        Instr::Jeq { a, b, to } => {
-            if equal(regs, a, b, to) {
-                Step::On(to as usize)
-            } else {
-                Step::On(place + 1)
-            }
-        }
-        Instr::Jne { a, b, to } => {
-            if unequal(regs, a, b, to) {
-                Step::On(to as usize)
-            } else {
-                Step::On(place + 1)
-            }
-        }
-        Instr::Jlt { a, b, to } => {
-            if less(regs, a, b, to) {
-                Step::On(to as usize)
-            } else {
-                Step::On(place + 1)
-            }
-        }
-        Instr::Jle { a, b, to } => {
-            if at_most(regs, a, b, to) {
-                Step::On(to as usize)
-            } else {
-                Step::On(place + 1)
-            }
-        }
+        Instr::Jeq { a, b, to } => jump!(place, to, equal(regs, a, b, to)),
+        Instr::Jne { a, b, to } => jump!(place, to, unequal(regs, a, b, to)),
+        Instr::Jlt { a, b, to } => jump!(place, to, less(regs, a, b, to)),
+        Instr::Jle { a, b, to } => jump!(place, to, at_most(regs, a, b, to)),
         Instr::Return => Step::Done,
         Instr::NextIter { a } => Step::Go(pointer(regs, a)),
     }

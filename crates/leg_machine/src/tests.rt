@@ -123,53 +123,63 @@ fn image_of(alloc: Global, init: &[Instr], body: &[Instr]) -> Result<Image, Fail
     Ok(Image::new(24, 8, 1, init_code, body_code))
 }
 
-#[test]
-fn searches_a_list(rt: HostRuntime) -> Result<(), Fail> {
+// A search for the end of a list: the link stands in the last eight bytes of a record.
+fn list_search(alloc: Global) -> Result<Image, Fail>
+    ensures record_size { IfOk result (λ i. i.record_size ≡ 24) }
+    ensures pad_size { IfOk result (λ i. i.pad_size ≡ 8) }
+    ensures args { IfOk result (λ i. i.args ≡ 1) }
+{
+    let (link, end) = (8, 9);
     let init = [
         Load { off: 0, len: 8 },
-        GetW { a: 8, w: 8, off: 0 },
-        NextIter { a: 8 },
+        GetW {
+            a: link,
+            w: 8,
+            off: 0,
+        },
+        NextIter { a: link },
     ];
     let body = [
         Load { off: 16, len: 8 },
         GetW {
-            a: 8,
+            a: link,
             w: 8,
             off: 16,
         },
-        SetL { a: 9, imm: 0 },
-        Jne { a: 8, b: 9, to: 5 },
+        SetL { a: end, imm: 0 },
+        Jne {
+            a: link,
+            b: end,
+            to: 5,
+        },
         Return,
-        NextIter { a: 8 },
+        NextIter { a: link },
     ];
-    let image = image_of(rt.alloc(), &init, &body)?;
+    image_of(alloc, &init, &body)
+}
+
+#[test]
+fn searches_a_list(rt: HostRuntime) -> Result<(), Fail> {
+    let image = list_search(rt.alloc())?;
     let pad = PadBytes::of(&[0; 8]);
     assert_eq!(rt; begin(&image, &[4096]), Begun::Go { cur: 4096, pad });
     let mut context = Context { cur: 4096, pad };
+    let later = Context {
+        cur: 0x0707_0707_0707_0707,
+        pad,
+    };
     let mut record = [7; 24];
     assert_eq!(rt;
         iterate(&mut context, &image, &mut record, false),
         Ended::Go
     );
-    assert_eq!(rt;
-        context,
-        Context {
-            cur: 0x0707_0707_0707_0707,
-            pad
-        }
-    );
+    assert_eq!(rt; context, later);
     let mut last = [0; 24];
     assert_eq!(rt;
         iterate(&mut context, &image, &mut last, false),
         Ended::Done
     );
-    assert_eq!(rt;
-        context,
-        Context {
-            cur: 0x0707_0707_0707_0707,
-            pad
-        }
-    );
+    assert_eq!(rt; context, later);
     Ok(())
 }
 

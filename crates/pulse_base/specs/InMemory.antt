@@ -1,5 +1,5 @@
 -- What a memory source and a memory sink hold, and what one call does to them.
-use Rattle.std.specs.Prelude.{◌≡◌, ℕ, ◌+◌, ◌-◌, ◌^◌, ◌<◌, min, List, ◌++◌, length, take, drop, Contains, ◌⊎◌}
+use Rattle.std.specs.Prelude.{◌≡◌, ℕ, ◌+◌, ◌-◌, ◌^◌, min, List, ◌++◌, length, drop, Contains, ◌⊎◌}
 
 -- bytes that are left, bytes a call at most, the numbers of the calls that fail, calls made, calls that failed
 pub record Reader : Type 0 where

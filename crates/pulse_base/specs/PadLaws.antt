@@ -1,5 +1,5 @@
 -- A pad's fields are those of its bytes.
-use Rattle.std.proofs.Common.{◌≡◌, ℕ, ◌-◌, List, ◌++◌, length, replicate, arith, sym, ap, ◌∙◌, length-take, length-drop}
+use Rattle.std.proofs.Common.{◌≡◌, ℕ, ◌-◌, List, ◌++◌, length, replicate, arith, sym, ap, ◌∙◌, length-take}
 use Rattle.std.proofs.lemmas.List.{take-append-drop}
 use Rattle.pulse_base.specs.declared.pad_bytes.PadBytes.TheInside.{Inside}
 use Rattle.pulse_base.specs.Pad.{pad_view, pad_fields, IsPad}

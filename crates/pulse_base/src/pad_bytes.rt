@@ -54,6 +54,14 @@ impl PadBytes {
         }
     }
 
+    /// Puts as many other bytes in the place of these.
+    pub fn put(&mut self, bytes: &[u8])
+        requires { length bytes.now ≡ length self.old }
+        ensures { self.new ≡ bytes.now }
+    {
+        self.bytes[..bytes.len()].copy_from_slice(bytes);
+    }
+
     /// The bytes, 1 to 256 of them.
     pub fn bytes(&self) -> &[u8]
         ensures bytes { result.now ≡ self.now }
