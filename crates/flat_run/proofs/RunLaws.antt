@@ -1,11 +1,14 @@
 -- The laws of steps and runs.
-use Rattle.std.proofs.Common.{◌≡◌, ◌≢◌, ℕ, zero, suc, false, List, [], ◌∷◌, Option, Some, None, is_some, set, refl, ap, ◌∙◌}
+use Rattle.std.proofs.Common.{◌≡◌, ◌≢◌, ℕ, zero, suc, ◌+◌, ◌<◌, Bool, ◌&&◌, false, List, [], ◌∷◌, length, take, drop, get_or, Option, Some, None, is_some, set, refl, sym, ap, ◌∙◌, arith, drop-cons, add-one}
+use Rattle.std.proofs.Math.Bool.{and_assoc}
 use Rattle.std.specs.Prelude.{slice_get}
 use Rattle.iter_check.specs.Iteration.{Iterated, Done, Goes, Fault}
 use Rattle.flat_run.specs.declared.state.FlatRegion.{FlatRegion}
 use Rattle.flat_run.specs.declared.state.FlatState.{FlatState}
 use Rattle.flat_run.specs.Region.{with_bytes}
-use Rattle.flat_run.specs.Step.{Turn, turn_of, iterates, settled, turned, flat_step}
+use Rattle.flat_run.specs.Walk.{Walk}
+use Rattle.flat_run.specs.Run.{flat_run, is_legal}
+use Rattle.flat_run.specs.Step.{Turn, can_step, turn_of, iterates, settled, turned, flat_step}
 use Rattle.flat_run.specs.Laws.{RunLaw, OthersLaw, RegionsLaw, FaultLaw, StuckLaw}
 
 pub run_appends : RunLaw
@@ -53,3 +56,21 @@ stuck_case s r (Some t) h = cc
 
 pub stuck_stays : StuckLaw
 stuck_stays walks limit s r h = stuck_case s r (turn_of walks limit s r) h
+
+-- one step more of an order
+pub run_reaches : (walks : List Walk) (limit : ℕ) (before : FlatState) (order : List ℕ) (at : ℕ) → at < length order → flat_run walks limit before (take (suc at) order) ≡ flat_step walks limit (flat_run walks limit before (take at order)) (get_or order at 0)
+run_reaches walks limit before [] at h = absurd (omega (arith, h))
+run_reaches walks limit before (r ∷ order) zero h = refl
+run_reaches walks limit before (r ∷ order) (suc at) h = run_reaches walks limit (flat_step walks limit before r) order at (omega (arith, h))
+
+-- the rest of an order, its first step and then the others
+first_left : (order : List ℕ) (at : ℕ) → at < length order → drop at order ≡ get_or order at 0 ∷ drop (at + 1) order
+first_left order at h = drop-cons order at 0 h ∙ ap (λ n. get_or order at 0 ∷ drop n order) (sym (add-one at))
+
+pub run_left : (walks : List Walk) (limit : ℕ) (now : FlatState) (order : List ℕ) (at : ℕ) → at < length order → flat_run walks limit now (drop at order) ≡ flat_run walks limit (flat_step walks limit now (get_or order at 0)) (drop (at + 1) order)
+run_left walks limit now order at h = ap (flat_run walks limit now) (first_left order at h)
+
+pub legal_left : (walks : List Walk) (limit : ℕ) (now : FlatState) (order : List ℕ) (at : ℕ) (legal : Bool) → at < length order → (legal && is_legal walks limit now (drop at order)) ≡ ((legal && can_step walks limit now (get_or order at 0)) && is_legal walks limit (flat_step walks limit now (get_or order at 0)) (drop (at + 1) order))
+legal_left walks limit now order at legal h =
+    ap (λ l. legal && is_legal walks limit now l) (first_left order at h)
+    ∙ sym (and_assoc legal (can_step walks limit now (get_or order at 0)) (is_legal walks limit (flat_step walks limit now (get_or order at 0)) (drop (at + 1) order)))

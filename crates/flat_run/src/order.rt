@@ -1,6 +1,6 @@
 // A flat run in an order, from where each request was asked.
 
-ghost use Rattle.std.specs.Prelude.{◌≡◌, ◌&&◌, IfOk, OnOk};
+ghost use Rattle.std.specs.Prelude.{◌≡◌, ◌&&◌, IfOk, OnOk, OnErr};
 ghost use Rattle.flat_run.specs.Walk.{walk_of, walks_of};
 ghost use Rattle.flat_run.specs.Request as q;
 ghost use Rattle.flat_run.specs.Run as r;
@@ -55,6 +55,7 @@ pub fn run(
 ) -> Result<bool, Memory>
     ensures state { OnOk result (state.new ≡ r.flat_run (walks_of walks.now) limit state.old order.now) }
     ensures legal { IfOk result (λ legal. legal ≡ r.is_legal (walks_of walks.now) limit state.old order.now) }
+    ensures stopped { OnErr result (r.AfterSome (walks_of walks.now) limit state.old state.new order.now) }
 {
     let mut legal = true;
     'order: for r in order {

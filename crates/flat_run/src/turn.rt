@@ -230,38 +230,20 @@ fn settle(
     requires room { HasRoom state.old.regions region cur outcome }
     ensures { (t : s.Turn) → t.region ≡ region → t.cur ≡ cur → t.count ≡ count → state.new ≡ s.settled state.old r t (iterated_of outcome) }
 {
-    match outcome {
+    let request = match outcome {
         Iterated::Done { record, pad } => {
             put_record(alloc, &mut state.regions, region, cur, record.as_slice());
             let count = count + 1;
-            put_request(
-                alloc,
-                &mut state.requests,
-                r,
-                FlatRequest::Done { pad, count },
-            );
+            FlatRequest::Done { pad, count }
         }
         Iterated::Goes { to, record, pad } => {
             put_record(alloc, &mut state.regions, region, cur, record.as_slice());
-            let count = count + 1;
-            put_request(
-                alloc,
-                &mut state.requests,
-                r,
-                FlatRequest::Ready {
-                    cur: to,
-                    pad,
-                    count,
-                },
-            );
+            let (cur, count) = (to, count + 1);
+            FlatRequest::Ready { cur, pad, count }
         }
-        Iterated::Fault(kind) => put_request(
-            alloc,
-            &mut state.requests,
-            r,
-            FlatRequest::Fault { kind, cur, count },
-        ),
-    }
+        Iterated::Fault(kind) => FlatRequest::Fault { kind, cur, count },
+    };
+    put_request(alloc, &mut state.requests, r, request);
 }
 
 /// One whole iteration of request `r`. Where it can't step, nothing changes, and so for want of memory.

@@ -4,11 +4,14 @@ ghost use Rattle.std.specs.Prelude.{◌≡◌, ◌-◌, ◌^◌, MatchOption, na
 ghost use Rattle.iter_syntax.specs.Tree.{ex};
 ghost use Rattle.iter_syntax.specs.declared.tree.BinaryOp.TheVariants as op;
 ghost use Rattle.iter_check.specs.Value as v;
+ghost use Rattle.iter_check.specs.FieldValue.{read_item};
+ghost use Rattle.iter_check.specs.Layout.{text, find_field};
+ghost use Rattle.flat_run.specs.declared.value.Value.TheVariants as value;
 ghost use Rattle.flat_run.specs.Interpreter.{worth, setting_of, state_of};
 
 use crate::fields::read_item;
 use crate::names::Names;
-use iter_syntax::{BinaryOp, Expr, FieldDecl};
+use iter_syntax::{BinaryOp, Expr, FieldDecl, Word};
 
 /// What stays the same while an iteration runs: the fields of its record and of its pad, the pointer
 /// to the record, and whether the record may be written.
@@ -156,6 +159,13 @@ fn moved(base: Value, offset: Value) -> Value
     }
 }
 
+// The value of an element of a field.
+fn item(fields: &[FieldDecl], name: &Word, bytes: &[u8], i: u64) -> Value
+    ensures { result ≡ value.Number (read_item (find_field fields.now (text name.now)) i bytes.now) }
+{
+    Value::Number(read_item(fields, name, i, bytes))
+}
+
 /// The value of an expression.
 pub fn value_of(setting: &Setting, state: &State, e: &Expr) -> Value
     ensures { worth result ≡ v.value_of (setting_of setting.now) (state_of state.now) (ex e.now) }
@@ -166,22 +176,17 @@ pub fn value_of(setting: &Setting, state: &State, e: &Expr) -> Value
         Expr::Name { name } => Value::Number(state.names.look(name)),
         Expr::Cur { .. } => Value::Number(setting.cur),
         Expr::CurField { field, .. } => match &field.index {
-            None => Value::Number(read_item(setting.record_fields, &field.name, 0, &state.record)),
+            None => item(setting.record_fields, &field.name, &state.record, 0),
             Some(index) => match word(value_of(setting, state, index.get())) {
                 None => Value::DivZero,
-                Some(i) => Value::Number(read_item(
-                    setting.record_fields,
-                    &field.name,
-                    i,
-                    &state.record,
-                )),
+                Some(i) => item(setting.record_fields, &field.name, &state.record, i),
             },
         },
         Expr::PadField { field, .. } => match &field.index {
-            None => Value::Number(read_item(setting.pad_fields, &field.name, 0, &state.pad)),
+            None => item(setting.pad_fields, &field.name, &state.pad, 0),
             Some(index) => match word(value_of(setting, state, index.get())) {
                 None => Value::DivZero,
-                Some(i) => Value::Number(read_item(setting.pad_fields, &field.name, i, &state.pad)),
+                Some(i) => item(setting.pad_fields, &field.name, &state.pad, i),
             },
         },
         Expr::Not { of, .. } => negated(value_of(setting, state, of.get())),
