@@ -88,6 +88,24 @@ pub fn check(alloc: Global, program: Program) -> Result<Checked, CheckError> {
     Ok(Checked { program, small })
 }
 
+// What init may name.
+fn init_scope(only: &Iter) -> Scope<'_> {
+    Scope {
+        args: only.args.as_slice(),
+        record: None,
+        pad: only.pad.as_slice(),
+    }
+}
+
+// What end and next may name.
+fn body_scope<'a>(record: &'a RecordDecl, only: &'a Iter) -> Scope<'a> {
+    Scope {
+        args: &[],
+        record: Some(record.fields.as_slice()),
+        pad: only.pad.as_slice(),
+    }
+}
+
 fn read_iter<'a>(
     alloc: Global,
     record: &'a RecordDecl,
@@ -108,21 +126,8 @@ fn read_iter<'a>(
     if !named || !are_arguments(args) {
         return Err(CheckError::NotSmall);
     }
-    let pad = only.pad.as_slice();
-    let (init_puts, start) = going(
-        alloc,
-        Scope {
-            args,
-            record: None,
-            pad,
-        },
-        &only.init_part,
-    )?;
-    let body = Scope {
-        args: &[],
-        record: Some(record.fields.as_slice()),
-        pad,
-    };
+    let (init_puts, start) = going(alloc, init_scope(only), &only.init_part)?;
+    let body = body_scope(record, only);
     let found = tests(alloc, body, &only.end_part)?;
     let (none, next) = going(alloc, body, &only.next_part)?;
     if !none.is_empty() || is_long(init_puts.len(), found.as_slice()) {
