@@ -1,6 +1,6 @@
 // Whether a program is a small one.
 
-ghost use Rattle.std.specs.Prelude.{◌≤◌, IfOk};
+ghost use Rattle.std.specs.Prelude.{◌≡◌, ◌≤◌, IfOk};
 
 use crate::fields::{are_arguments, size_of};
 use crate::shape::{Scope, going, tests};
@@ -22,7 +22,9 @@ pub enum CheckError {
 }
 
 impl From<Memory> for CheckError {
-    fn from(_memory: Memory) -> CheckError {
+    fn from(_memory: Memory) -> CheckError
+        ensures { result ≡ CheckError.Memory }
+    {
         CheckError::Memory
     }
 }
@@ -40,7 +42,9 @@ pub struct Checked {
 
 impl Checked {
     /// The program that was checked.
-    pub fn program(&self) -> &Program {
+    pub fn program(&self) -> &Program
+        ensures { result.now ≡ self.now.program }
+    {
         &self.program
     }
 
@@ -54,13 +58,15 @@ impl Checked {
 
     /// The bytes of a record, 8 to 256.
     pub fn record_size(&self) -> u16
-        ensures { result ≤ 256 }
+        ensures size { result ≡ self.now.small.record_size }
+        ensures fits { result ≤ 256 }
     {
         self.small.record_size
     }
 
     /// The bytes of a pad, 8 to 256.
     pub fn pad_size(&self) -> u16
+        ensures size { result ≡ self.now.small.pad_size }
         ensures some { 1 ≤ result }
         ensures fits { result ≤ 256 }
     {
@@ -69,18 +75,23 @@ impl Checked {
 
     /// How many arguments the iterator has, at most 8.
     pub fn arg_count(&self) -> u8
-        ensures { result ≤ 8 }
+        ensures count { result ≡ self.now.small.args }
+        ensures fits { result ≤ 8 }
     {
         self.small.args
     }
 
-    pub(crate) fn small(&self) -> &SmallIter {
+    pub(crate) fn small(&self) -> &SmallIter
+        ensures { result.now ≡ self.now.small }
+    {
         &self.small
     }
 }
 
 /// Takes a small program. Any other is refused, and the program is gone in each case.
-pub fn check(alloc: Global, program: Program) -> Result<Checked, CheckError> {
+pub fn check(alloc: Global, program: Program) -> Result<Checked, CheckError>
+    ensures { IfOk result (λ c. c.program ≡ program) }
+{
     let small = match (program.records.as_slice(), program.iters.as_slice()) {
         ([record], [only]) if record.place.0 < only.place.0 => read_iter(alloc, record, only)?,
         _ => return Err(CheckError::NotSmall),

@@ -1,5 +1,8 @@
 // Instructions, one after another.
 
+ghost use Rattle.std.specs.Prelude.{◌≡◌, false, OnOk};
+ghost use Rattle.pulse_codegen.specs.OneLoad.{is_load, StillLoadsOnce};
+
 use crate::built::Code;
 use crate::small::{Operand, Put, Test};
 use pulse_base::Memory;
@@ -10,64 +13,67 @@ const FIRST: u8 = 8;
 
 const SECOND: u8 = 9;
 
+// One instruction more, which is no LOAD.
+fn emit(code: &mut Code, i: Instr) -> Result<(), Memory>
+    requires { is_load i ≡ false }
+    ensures { OnOk result (StillLoadsOnce code.old code.new) }
+{
+    code.push(i)
+}
+
 /// The operand's value in a register.
-fn emit_operand(code: &mut Code, operand: Operand, a: u8) -> Result<(), Memory> {
+fn emit_operand(code: &mut Code, operand: Operand, a: u8) -> Result<(), Memory>
+    ensures { OnOk result (StillLoadsOnce code.old code.new) }
+{
     match operand {
         Operand::Number(value) => {
-            code.push(Instr::SetL {
-                a,
-                imm: (value % 0x1_0000_0000) as u32,
-            })?;
-            let high = (value / 0x1_0000_0000) as u32;
-            if high != 0 {
-                code.push(Instr::SetH { a, imm: high })?;
+            let imm = (value % 0x1_0000_0000) as u32;
+            emit(code, Instr::SetL { a, imm })?;
+            let imm = (value / 0x1_0000_0000) as u32;
+            if imm != 0 {
+                emit(code, Instr::SetH { a, imm })?;
             }
             Ok(())
         }
-        Operand::Cur => code.push(Instr::GetC { a }),
-        Operand::Argument(number) => code.push(Instr::GetW {
-            a,
-            w: 8,
-            off: u32::from(number) * 8,
-        }),
-        Operand::Record(offset) => code.push(Instr::GetW {
-            a,
-            w: 8,
-            off: u32::from(offset),
-        }),
-        Operand::Pad(offset) => code.push(Instr::GetP {
-            a,
-            w: 8,
-            off: u32::from(offset),
-        }),
+        Operand::Cur => emit(code, Instr::GetC { a }),
+        Operand::Argument(number) => {
+            let off = u32::from(number) * 8;
+            emit(code, Instr::GetW { a, w: 8, off })
+        }
+        Operand::Record(offset) => {
+            let off = u32::from(offset);
+            emit(code, Instr::GetW { a, w: 8, off })
+        }
+        Operand::Pad(offset) => {
+            let off = u32::from(offset);
+            emit(code, Instr::GetP { a, w: 8, off })
+        }
     }
 }
 
 /// The stores of some puts, in order.
-pub(crate) fn emit_puts(code: &mut Code, puts: &[Put]) -> Result<(), Memory> {
+pub(crate) fn emit_puts(code: &mut Code, puts: &[Put]) -> Result<(), Memory>
+    ensures { OnOk result (StillLoadsOnce code.old code.new) }
+{
     for put in puts {
-        emit_operand(code, put.value, FIRST)?;
-        code.push(Instr::PutP {
-            a: FIRST,
-            w: 8,
-            off: u32::from(put.offset),
-        })?;
+        let (a, off) = (FIRST, u32::from(put.offset));
+        emit_operand(code, put.value, a)?;
+        emit(code, Instr::PutP { a, w: 8, off })?;
     }
     Ok(())
 }
 
 /// A test: its puts and a `RETURN` are passed over where the operands differ.
-pub(crate) fn emit_test(code: &mut Code, test: &Test) -> Result<(), Memory> {
-    emit_operand(code, test.left, FIRST)?;
-    emit_operand(code, test.right, SECOND)?;
+pub(crate) fn emit_test(code: &mut Code, test: &Test) -> Result<(), Memory>
+    ensures { OnOk result (StillLoadsOnce code.old code.new) }
+{
+    let (a, b) = (FIRST, SECOND);
+    emit_operand(code, test.left, a)?;
+    emit_operand(code, test.right, b)?;
     let to = place_after(code, puts_len(test.puts.as_slice()).saturating_add(2));
-    code.push(Instr::Jne {
-        a: FIRST,
-        b: SECOND,
-        to,
-    })?;
+    emit(code, Instr::Jne { a, b, to })?;
     emit_puts(code, test.puts.as_slice())?;
-    code.push(Instr::Return)
+    emit(code, Instr::Return)
 }
 
 // How many instructions the puts have.
@@ -93,7 +99,9 @@ fn place_after(code: &Code, count: usize) -> u32 {
 }
 
 /// The end of a segment that goes to a pointer.
-pub(crate) fn emit_go(code: &mut Code, to: Operand) -> Result<(), Memory> {
+pub(crate) fn emit_go(code: &mut Code, to: Operand) -> Result<(), Memory>
+    ensures { OnOk result (StillLoadsOnce code.old code.new) }
+{
     emit_operand(code, to, FIRST)?;
-    code.push(Instr::NextIter { a: FIRST })
+    emit(code, Instr::NextIter { a: FIRST })
 }
