@@ -1,17 +1,13 @@
 -- Code that loads once does so with one instruction more.
-use Rattle.std.proofs.Common.{◌≡◌, ◌==◌, ◌&&◌, true, false, List, [], ◌∷◌, ◌++◌, refl, ap, ◌∙◌}
+use Rattle.std.proofs.Common.{◌≡◌, ◌==◌, ◌&&◌, not, true, false, List, [], ◌∷◌, ◌++◌, ap, ◌∙◌}
 use Rattle.pulse_isa.specs.declared.instr.Instr.{Instr}
 use Rattle.pulse_isa.specs.declared.instr.Instr.TheVariants.{Load}
-use Rattle.pulse_codegen.specs.OneLoad.{is_load, has_no_load, StillLoadsOnce}
-
-no_load-one : (i : Instr) → is_load i ≡ false → has_no_load (i ∷ []) ≡ true
-no_load-one (Load off len) e = absurd (cc)
-no_load-one _ e = refl
+use Rattle.code_verify.specs.Rules.{is_load}
+use Rattle.pulse_codegen.specs.OneLoad.{has_no_load, StillLoadsOnce}
 
 no_load-snoc : (is : List Instr) (i : Instr) → is_load i ≡ false → has_no_load (is ++ i ∷ []) ≡ has_no_load is
-no_load-snoc [] i e = no_load-one i e
-no_load-snoc (Load off len ∷ is) i e = refl
-no_load-snoc (_ ∷ is) i e = no_load-snoc is i e
+no_load-snoc [] i e = ap (λ b. not b && true) e
+no_load-snoc (j ∷ is) i e = ap (λ b. not (is_load j) && b) (no_load-snoc is i e)
 
 pub still-snoc : (code : List Instr) (i : Instr) → is_load i ≡ false → StillLoadsOnce code (code ++ i ∷ [])
 still-snoc (Load off n ∷ rest) i e len h = ap (λ b. off == 0 && n == len && b) (no_load-snoc rest i e) ∙ h

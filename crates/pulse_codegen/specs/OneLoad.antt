@@ -1,16 +1,12 @@
 -- Code that loads once: its first instruction, and no other, is a LOAD.
-use Rattle.std.specs.Prelude.{◌≡◌, ◌==◌, ◌&&◌, ℕ, Bool, true, false, List, [], ◌∷◌}
+use Rattle.std.specs.Prelude.{◌≡◌, ◌==◌, ◌&&◌, not, ℕ, Bool, true, false, List, [], ◌∷◌}
 use Rattle.pulse_isa.specs.declared.instr.Instr.{Instr}
 use Rattle.pulse_isa.specs.declared.instr.Instr.TheVariants.{Load}
-
-abbrev pub is_load : Instr → Bool
-is_load (Load off len) = true
-is_load _ = false
+use Rattle.code_verify.specs.Rules.{is_load}
 
 abbrev pub has_no_load : List Instr → Bool
 has_no_load [] = true
-has_no_load (Load off len ∷ is) = false
-has_no_load (_ ∷ is) = has_no_load is
+has_no_load (i ∷ is) = not (is_load i) && has_no_load is
 
 -- the code begins with the LOAD of the first `len` bytes, and has no other
 abbrev pub loads_once : (len : ℕ) → List Instr → Bool

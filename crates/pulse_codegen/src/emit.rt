@@ -1,7 +1,8 @@
 // Instructions, one after another.
 
 ghost use Rattle.std.specs.Prelude.{◌≡◌, false, OnOk};
-ghost use Rattle.pulse_codegen.specs.OneLoad.{is_load, StillLoadsOnce};
+ghost use Rattle.code_verify.specs.Rules.{is_load};
+ghost use Rattle.pulse_codegen.specs.OneLoad.{StillLoadsOnce};
 
 use crate::built::Code;
 use crate::small::{Operand, Put, Test};
