@@ -1,3 +1,4 @@
+pub mod Cause
 pub mod InMemory
 pub mod Link
 pub mod Outside

@@ -1,6 +1,18 @@
 // How a request is answered.
 
+ghost use Rattle.std.specs.Prelude.{◌≡◌};
+ghost use Rattle.pulse_base.specs.Cause.{kind_of};
+
 use crate::pad_bytes::PadBytes;
+
+/// What can end an iteration that runs: the two faults that a statement or an instruction makes itself.
+#[derive(Clone, Copy, Debug, PartialEq, Eq)]
+pub enum Cause {
+    /// A store to the record in a region that may not be written.
+    NotWritable,
+    /// A division or a remainder by zero.
+    DivZero,
+}
 
 /// Why an iteration or a walk faulted.
 #[derive(Clone, Copy, Debug, PartialEq, Eq)]
@@ -13,6 +25,17 @@ pub enum FaultKind {
     NotWritable,
     /// A division or a remainder by zero.
     DivZero,
+}
+
+impl From<Cause> for FaultKind {
+    fn from(cause: Cause) -> FaultKind
+        ensures { result ≡ kind_of cause }
+    {
+        match cause {
+            Cause::NotWritable => FaultKind::NotWritable,
+            Cause::DivZero => FaultKind::DivZero,
+        }
+    }
 }
 
 /// The answer of a request. A count is the number of its iterations that took effect.

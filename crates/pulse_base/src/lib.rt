@@ -21,7 +21,7 @@ mod streams;
 #[cfg(test)]
 mod tests;
 
-pub use answer::{Answer, FaultKind};
+pub use answer::{Answer, Cause, FaultKind};
 pub use link::{Got, Link};
 pub use listed::{Answers, Bytes, Listed, Memory, Numbers};
 pub use mem_sink::MemSink;
