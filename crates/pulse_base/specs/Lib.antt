@@ -1,4 +1,5 @@
 pub mod Cause
+pub mod Fault
 pub mod InMemory
 pub mod Link
 pub mod Outside

@@ -1,9 +1,11 @@
 // How a request is answered.
 
-ghost use Rattle.std.specs.Prelude.{◌≡◌};
+ghost use Rattle.std.specs.Prelude.{◌≡◌, Some};
 ghost use Rattle.pulse_base.specs.Cause.{kind_of};
+ghost use Rattle.pulse_base.specs.Fault.{fault_name};
 
 use crate::pad_bytes::PadBytes;
+use std::fmt;
 
 /// What can end an iteration that runs: the two faults that a statement or an instruction makes itself.
 #[derive(Clone, Copy, Debug, PartialEq, Eq)]
@@ -28,6 +30,8 @@ pub enum FaultKind {
 }
 
 impl From<Cause> for FaultKind {
+    ghost from_gives = { λ cause kind. kind ≡ kind_of cause };
+
     fn from(cause: Cause) -> FaultKind
         ensures { result ≡ kind_of cause }
     {
@@ -35,6 +39,28 @@ impl From<Cause> for FaultKind {
             Cause::NotWritable => FaultKind::NotWritable,
             Cause::DivZero => FaultKind::DivZero,
         }
+    }
+}
+
+impl FaultKind {
+    /// The kind's name in a report.
+    pub fn name(self) -> &'static str
+        ensures { result.now ≡ fault_name self }
+    {
+        match self {
+            FaultKind::Unmapped => "unmapped",
+            FaultKind::NotReadable => "not_readable",
+            FaultKind::NotWritable => "not_writable",
+            FaultKind::DivZero => "div_zero",
+        }
+    }
+}
+
+impl fmt::Display for FaultKind {
+    ghost output = { λ kind. Some (fault_name kind) };
+
+    fn fmt<W: fmt::Write>(&self, f: &mut fmt::Formatter<W>) -> fmt::Result {
+        f.write_str(self.name())
     }
 }
 
