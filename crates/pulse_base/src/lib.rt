@@ -7,11 +7,13 @@
 #![tactic(auto)]
 
 mod answer;
+mod event;
 mod link;
 mod listed;
 mod mem_sink;
 mod mem_source;
 mod pad_bytes;
+mod plan;
 mod reading;
 mod sink;
 mod source;
@@ -22,11 +24,13 @@ mod streams;
 mod tests;
 
 pub use answer::{Answer, Cause, FaultKind};
+pub use event::{Event, Events, Trace, Traces};
 pub use link::{Got, Link};
 pub use listed::{Answers, Bytes, Listed, Memory, Numbers};
 pub use mem_sink::MemSink;
 pub use mem_source::MemSource;
 pub use pad_bytes::PadBytes;
+pub use plan::{RequestPlan, Requests};
 pub use reading::{ReadAll, read_all};
 pub use sink::{Sink, write_all};
 pub use source::{Failed, Source};

@@ -1,6 +1,6 @@
 // The one list type, and the lists of plain items.
 
-ghost use Rattle.std.specs.Prelude.{◌≡◌, ◌<◌, ◌↔◌, [], ◌∷◌, ◌++◌, length, slice_get, Some, OnOk, OnErr, IsTrue};
+ghost use Rattle.std.specs.Prelude.{◌≡◌, ◌<◌, ◌↔◌, [], ◌∷◌, ◌++◌, length, slice_get, slice_set, Some, IfOk, OnOk, OnErr, IfSome, IfNone, IsTrue};
 
 use crate::answer::Answer;
 use std::alloc::{AllocError, AllocFailed, Global};
@@ -97,6 +97,24 @@ impl<T> Listed<T> {
         &self.items[at]
     }
 
+    /// Puts an item in the place of the one at a place below `len`.
+    pub fn set(&mut self, at: usize, item: T)
+    where
+        T: Drop,
+        requires { at < length self.old }
+        ensures { self.new ≡ slice_set self.old at item }
+    {
+        self.items[at] = item;
+    }
+
+    /// Takes the last item, where there is one.
+    pub fn pop(&mut self) -> Option<T>
+        ensures last { IfSome result (λ item. self.old ≡ self.new ++ item ∷ []) }
+        ensures empty { IfNone result ((self.old ≡ []) × (self.new ≡ [])) }
+    {
+        self.items.pop()
+    }
+
     /// Appends an item, or changes nothing.
     pub fn push(&mut self, item: T) -> Result<(), Memory>
     where
@@ -112,6 +130,15 @@ impl<T> Listed<T> {
 }
 
 impl<T: Copy> Listed<T> {
+    /// The items of a slice.
+    pub fn from_slice(alloc: Global, items: &[T]) -> Result<Listed<T>, Memory>
+        ensures { IfOk result (λ list. list ≡ items.now) }
+    {
+        let mut list = Listed::new(alloc);
+        list.append(items)?;
+        Ok(list)
+    }
+
     /// Appends the items of a slice, or changes nothing.
     pub fn append(&mut self, more: &[T]) -> Result<(), Memory>
         ensures ok { OnOk result (self.new ≡ self.old ++ more.now) }

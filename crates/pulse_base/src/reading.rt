@@ -1,6 +1,6 @@
 // Reading a source to its end.
 
-ghost use Rattle.std.specs.Prelude.{◌≡◌, ◌≤◌, ◌<◌, ◌^◌};
+ghost use Rattle.std.specs.Prelude.{◌≡◌, ◌≢◌, ◌≤◌};
 ghost use Rattle.pulse_base.specs.Outside.{Rose};
 ghost use Rattle.pulse_base.specs.Reading.{ReadsAll};
 
@@ -21,8 +21,8 @@ pub enum ReadAll {
 
 /// All the bytes up to the end, at most `max` of them. It makes at most `max + 2` reads.
 pub fn read_all<R: Source>(alloc: Global, src: &mut R, max: usize) -> Result<Bytes, ReadAll>
-    requires { max < 2 ^ 63 }
     ensures fault { result ≡ Err ReadAll.Fault → Rose (R.faults src.old) (R.faults src.new) }
+    ensures kept { result ≢ Err ReadAll.Fault → R.faults src.new ≡ R.faults src.old }
     ensures later { R.faults src.old ≤ R.faults src.new }
     ensures bytes { ReadsAll max (R.left src.old) (R.left src.new) result }
 {

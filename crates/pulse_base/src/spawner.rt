@@ -1,6 +1,6 @@
 // Where child programs are started.
 
-ghost use Rattle.std.specs.Prelude.{ℕ, Option, map};
+ghost use Rattle.std.specs.Prelude.{◌≡◌, ℕ, Option, map};
 ghost use Rattle.std.specs.String.{string_bytes};
 ghost use Rattle.pulse_base.specs.Outside.{HasCause};
 ghost use Rattle.pulse_base.specs.Spawner.{Family, Starts, Waits};
@@ -20,6 +20,21 @@ impl Model for Kid {
     ghost Value = { ℕ };
 
     ghost view = { λ k. k.number };
+}
+
+impl Kid {
+    // The child with this number, which an adapter of this crate started.
+    pub(crate) fn of(number: u32) -> Kid
+        ensures { result ≡ number }
+    {
+        Kid { number }
+    }
+
+    pub(crate) fn number(&self) -> u32
+        ensures { result ≡ self.now }
+    {
+        self.number
+    }
 }
 
 /// A starter of child programs, which may tell which ones it started and waited for.

@@ -1,23 +1,12 @@
 // Reading and writing whole, in pieces and with faults, and the standard streams.
 
 use crate::{
-    Answer, Bytes, Failed, FaultKind, Listed, MemSink, MemSource, Numbers, PadBytes, ReadAll,
-    ReaderSource, Sink, Source, Status, WriterSink, read_all, write_all,
+    Answer, Bytes, Cause, Failed, FaultKind, Listed, MemSink, MemSource, Numbers, PadBytes,
+    ReadAll, ReaderSource, RequestPlan, Requests, Sink, Source, Status, WriterSink, read_all,
+    write_all,
 };
-use std::alloc::Global;
+use arrayvec::ArrayVec;
 use std::test::Fail;
-
-fn numbers(alloc: Global, items: &[u32]) -> Result<Numbers, Fail> {
-    let mut list = Numbers::new(alloc);
-    list.append(items)?;
-    Ok(list)
-}
-
-fn bytes(alloc: Global, items: &[u8]) -> Result<Bytes, Fail> {
-    let mut list = Bytes::new(alloc);
-    list.append(items)?;
-    Ok(list)
-}
 
 #[test]
 fn reads_whole_in_pieces(rt: HostRuntime) -> Result<(), Fail> {
@@ -31,9 +20,9 @@ fn reads_whole_in_pieces(rt: HostRuntime) -> Result<(), Fail> {
     ];
     for (fails, max, want) in fails {
         let mut source = MemSource::make(
-            bytes(rt.alloc(), b"hello")?,
+            Bytes::from_slice(rt.alloc(), b"hello")?,
             2,
-            numbers(rt.alloc(), fails)?,
+            Numbers::from_slice(rt.alloc(), fails)?,
         );
         match read_all(rt.alloc(), &mut source, max) {
             Ok(all) => {
@@ -56,7 +45,7 @@ fn writes_whole_in_pieces(rt: HostRuntime) -> Result<(), Fail> {
         (9, &[1], false, b"he"),
     ];
     for (room, fails, whole, want) in cases {
-        let mut sink = MemSink::make(rt.alloc(), room, 2, numbers(rt.alloc(), fails)?)?;
+        let mut sink = MemSink::make(rt.alloc(), room, 2, Numbers::from_slice(rt.alloc(), fails)?)?;
         assert_eq!(rt; write_all(&mut sink, b"hello").is_ok(), whole);
         assert_eq!(rt; sink.taken(), want);
     }
@@ -110,5 +99,42 @@ fn numbers_statuses_and_keeps_pads(rt: HostRuntime) -> Result<(), Fail> {
     })?;
     assert_eq!(rt; answers.len(), 2);
     assert_eq!(rt; Failed, Failed);
+    Ok(())
+}
+
+#[test]
+fn sets_and_pops_items(rt: HostRuntime) -> Result<(), Fail> {
+    let mut list = Numbers::from_slice(rt.alloc(), &[1, 2, 3])?;
+    list.set(1, 7);
+    assert_eq!(rt; list.pop(), Some(3));
+    assert_eq!(rt; list.as_slice(), [1, 7].as_slice());
+    assert_eq!(rt;
+        (list.pop(), list.pop(), list.pop()),
+        (Some(7), Some(1), None)
+    );
+    let mut requests = Requests::new(rt.alloc());
+    let mut args = ArrayVec::new();
+    args.push(4096);
+    requests.push(RequestPlan {
+        number: 0,
+        iter: 1,
+        client: 2,
+        args,
+    })?;
+    assert_eq!(rt; requests.get(0).args.as_slice(), [4096].as_slice());
+    Ok(())
+}
+
+#[test]
+fn names_the_kinds_of_faults(rt: HostRuntime) -> Result<(), Fail> {
+    let kinds = [
+        (FaultKind::Unmapped, "unmapped"),
+        (FaultKind::NotReadable, "not_readable"),
+        (FaultKind::from(Cause::NotWritable), "not_writable"),
+        (FaultKind::from(Cause::DivZero), "div_zero"),
+    ];
+    for (kind, name) in kinds {
+        assert_eq!(rt; format!(in rt.alloc(); "{kind}")?.as_str(), name);
+    }
     Ok(())
 }

@@ -9,5 +9,5 @@ pieces-preserved g c =
     record {
       inside = omega (arith, c.in_ok-at.ensures.bound, length-drop c.pieces.at c.args.bytes.now, ap length piece);
       wrote = wrote_more _ _ _ c.args.bytes.now _ c.pieces.at c.in_ok-at.field-0 piece c.pieces.invariant.wrote c.in_ok-at.ensures.bytes;
-      later = omega (arith, c.in_ok-at.ensures.cause.later);
+      kept = omega (arith, c.in_ok-at.ensures.cause.kept);
     }
