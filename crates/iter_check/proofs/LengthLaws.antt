@@ -1,12 +1,13 @@
 -- Statements keep how long the record and the pad are.
-use Rattle.std.proofs.Common.{◌≡◌, ℕ, zero, suc, ◌+◌, ◌-◌, ◌*◌, ◌/◌, ◌≤◌, Bool, true, false, List, [], ◌++◌, Option, Some, None, length, take, drop, nat_le, nat_lt, if◌then◌else◌, refl, ap, ◌∙◌, arith, length-append, length-take, length-drop}
+use Rattle.std.proofs.Common.{◌≡◌, ℕ, zero, suc, ◌+◌, ◌-◌, ◌/◌, ◌≤◌, Bool, true, false, List, [], ◌++◌, Option, Some, None, length, take, drop, nat_le, nat_lt, if◌then◌else◌, refl, ap, ◌∙◌, arith, length-append, length-take, length-drop}
 use Rattle.iter_syntax.specs.declared.tree.Word.{Word}
 use Rattle.iter_syntax.specs.declared.tree.Iter.{Iter}
 use Rattle.iter_syntax.specs.declared.tree.FieldDecl.{FieldDecl}
 use Rattle.iter_syntax.specs.Tree.{Sts, block}
 use Rattle.iter_syntax.specs.Tree as t
-use Rattle.iter_check.specs.Layout.{Slot, find_field, text}
-use Rattle.iter_check.specs.FieldValue.{bytes_of, write_at, write_item}
+use Rattle.iter_syntax.specs.declared.tree.Width.{Width}
+use Rattle.iter_check.specs.Layout.{Slot, width_bytes, find_field, text}
+use Rattle.iter_check.specs.FieldValue.{bytes_of, item_at, write_at, write_item}
 use Rattle.iter_check.specs.State.{Setting, State}
 use Rattle.iter_check.specs.Value.{word, value_of}
 use Rattle.iter_check.specs.Meaning.{Outcome, Falls, Done, Goes, Fault, declare, assign, store_pad, store_record, given, if_writable, then_do, within, pick, turns, meaning}
@@ -23,16 +24,16 @@ write_case true bytes o w v e =
     omega (arith, length-append (take o bytes ++ bytes_of w v) (drop (o + w) bytes), length-append (take o bytes) (bytes_of w v), length-bytes_of w v, length-take o bytes, length-drop (o + w) bytes)
 write_case false bytes o w v e = refl
 
-pub length-write_at : (bytes : List ℕ) (o w v : ℕ) → length (write_at bytes o w v) ≡ length bytes
-length-write_at bytes o w v = write_case (nat_le (o + w) (length bytes)) bytes o w v refl
+pub length-write_at : (bytes : List ℕ) (o : ℕ) (w : Width) (v : ℕ) → length (write_at bytes o w v) ≡ length bytes
+length-write_at bytes o w v = write_case (nat_le (o + width_bytes w) (length bytes)) bytes o (width_bytes w) v refl
 
-item_case : (b : Bool) (bytes : List ℕ) (o w v : ℕ) → length (if b then write_at bytes o w v else bytes) ≡ length bytes
+item_case : (b : Bool) (bytes : List ℕ) (o : ℕ) (w : Width) (v : ℕ) → length (if b then write_at bytes o w v else bytes) ≡ length bytes
 item_case true bytes o w v = length-write_at bytes o w v
 item_case false bytes o w v = refl
 
 pub length-write_item : (s : Option Slot) (i v : ℕ) (bytes : List ℕ) → length (write_item s i v bytes) ≡ length bytes
 length-write_item None i v bytes = refl
-length-write_item (Some s) i v bytes = item_case (nat_lt i s.count) bytes (s.offset + i * s.width) s.width v
+length-write_item (Some s) i v bytes = item_case (nat_lt i s.count) bytes (item_at s i) s.width v
 
 -- an outcome leaves a record of `n` bytes and a pad of `m`
 abbrev pub Keeps : ℕ → ℕ → Outcome → Type 0

@@ -1,6 +1,6 @@
 -- One iteration at a record, and the init of a walk.
 use Rattle.std.specs.Prelude.{ℕ, Bool, true, List, [], ◌∷◌, replicate}
-use Rattle.pulse_base.specs.declared.answer.FaultKind.{FaultKind}
+use Rattle.pulse_base.specs.declared.answer.Cause.{Cause}
 use Rattle.iter_syntax.specs.declared.tree.FieldDecl.{FieldDecl}
 use Rattle.iter_syntax.specs.declared.tree.Arg.{Arg}
 use Rattle.iter_syntax.specs.declared.tree.Iter.{Iter}
@@ -14,7 +14,7 @@ use Rattle.iter_check.specs.Meaning as m
 pub data Iterated : Type 0 where
   Done : (record_bytes pad : List ℕ) → Iterated
   Goes : (to : ℕ) (record_bytes pad : List ℕ) → Iterated
-  Fault : FaultKind → Iterated
+  Fault : Cause → Iterated
 
 -- an iteration that falls through its last statement is done
 abbrev pub iterated : Outcome → Iterated
@@ -36,18 +36,18 @@ iteration fields it record_bytes cur pad writable =
     it
     (record { record_bytes = record_bytes; pad = pad; names = [] }))
 
--- the first pointer and pad of a walk, the pad of one that is done at once, or its fault
+-- the first pointer and pad of a walk, the pad of one that is done at once, or a division by zero: init stores to no record
 pub data Begun : Type 0 where
   Ready : (cur : ℕ) (pad : List ℕ) → Begun
   Ended : (pad : List ℕ) → Begun
-  Faulted : FaultKind → Begun
+  DivZero : Begun
 
 -- init that falls through its last statement is done
 abbrev pub begun : Outcome → Begun
 begun (m.Falls s) = Ended s.pad
 begun (m.Done s) = Ended s.pad
 begun (m.Goes p s) = Ready p s.pad
-begun (m.Fault k) = Faulted k
+begun (m.Fault k) = DivZero
 
 -- the arguments as names before others, the last argument the newest; one without a value is not there
 abbrev pub with_arguments : List Arg → List ℕ → Names → Names

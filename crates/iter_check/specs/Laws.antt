@@ -1,8 +1,9 @@
 -- What holds of each store and of each iteration, whatever the program.
-use Rattle.std.specs.Prelude.{◌≡◌, ℕ, ◌+◌, ◌≤◌, Bool, List, length, take, drop}
+use Rattle.std.specs.Prelude.{◌≡◌, ℕ, ◌+◌, ◌<◌, ◌≤◌, Bool, List, length, take, drop, Some}
 use Rattle.iter_syntax.specs.declared.tree.FieldDecl.{FieldDecl}
 use Rattle.iter_syntax.specs.declared.tree.Iter.{Iter}
-use Rattle.iter_check.specs.FieldValue.{bytes_of, write_at}
+use Rattle.iter_check.specs.Layout.{Slot, width_bytes}
+use Rattle.iter_check.specs.FieldValue.{bytes_of, item_at, write_item}
 use Rattle.iter_check.specs.Iteration.{Iterated, Done, Goes, Fault, iteration}
 
 -- the bytes at an offset are those of a value, and all others are as they were
@@ -12,10 +13,12 @@ pub record StoresAlone (before after : List ℕ) (offset width v : ℕ) : Type 0
   pub field : take width (drop offset after) ≡ bytes_of width v
   pub back : drop (offset + width) after ≡ drop (offset + width) before
 
--- a store touches only its field's bytes
+-- a store touches only the bytes of its element, which are then those of its value
 abbrev pub StoreLaw : Type 0
 StoreLaw =
-    (bytes : List ℕ) (offset width v : ℕ) → offset + width ≤ length bytes → StoresAlone bytes (write_at bytes offset width v) offset width v
+    (s : Slot) (i v : ℕ) (bytes : List ℕ)
+    → i < s.count → item_at s i + width_bytes s.width ≤ length bytes
+    → StoresAlone bytes (write_item (Some s) i v bytes) (item_at s i) (width_bytes s.width) v
 
 -- an iteration leaves a record of `n` bytes and a pad of `m`; a fault leaves neither
 abbrev pub Leaves : ℕ → ℕ → Iterated → Type 0

@@ -30,10 +30,10 @@ field_size f = elements f * width_bytes f.width
 abbrev pub size_of : List FieldDecl → ℕ
 size_of fields = sum_by field_size fields
 
--- a field's place: its offset, the bytes of an element, and the number of elements
+-- a field's place: its offset, the width of an element, and the number of elements
 pub record Slot : Type 0 where
   pub offset : ℕ
-  pub width : ℕ
+  pub width : Width
   pub count : ℕ
 
 -- the place of the first field of a name, where the fields lie from an offset on
@@ -41,7 +41,7 @@ abbrev pub find_from : ℕ → List ℕ → List FieldDecl → Option Slot
 find_from offset name [] = None
 find_from offset name (f ∷ fields) =
     if bytes_eq (text f.name) name
-    then Some (record { offset = offset; width = width_bytes f.width; count = elements f })
+    then Some (record { offset = offset; width = f.width; count = elements f })
     else find_from (offset + field_size f) name fields
 
 -- the place of a field by its name

@@ -1,7 +1,7 @@
 -- What a list of statements means: where it leads, and the record's bytes, the pad and the names that it leaves.
 use Rattle.std.specs.Prelude.{ℕ, zero, suc, ◌+◌, ◌-◌, Bool, true, false, ◌∷◌, length, drop, Option, Some, None}
-use Rattle.pulse_base.specs.declared.answer.FaultKind.{FaultKind}
-use Rattle.pulse_base.specs.declared.answer.FaultKind.TheVariants as fault
+use Rattle.pulse_base.specs.declared.answer.Cause.{Cause}
+use Rattle.pulse_base.specs.declared.answer.Cause.TheVariants as cause
 use Rattle.iter_syntax.specs.declared.tree.Word.{Word}
 use Rattle.iter_syntax.specs.Tree.{Ex, Sts}
 use Rattle.iter_syntax.specs.Tree as t
@@ -15,7 +15,7 @@ pub data Outcome : Type 0 where
   Falls : State → Outcome
   Done : State → Outcome
   Goes : ℕ → State → Outcome
-  Fault : FaultKind → Outcome
+  Fault : Cause → Outcome
 
 -- a let or a loop variable comes in scope
 abbrev pub declare : Word → ℕ → State → State
@@ -35,13 +35,13 @@ store_record g w i v s = record s { record_bytes = write_item (find_field g.reco
 
 -- what a value is used for
 abbrev pub given : Option ℕ → (ℕ → Outcome) → Outcome
-given None f = Fault fault.DivZero
+given None f = Fault cause.DivZero
 given (Some v) f = f v
 
 -- goes on where the record may be written
 abbrev pub if_writable : Bool → Outcome → Outcome
 if_writable true o = o
-if_writable false o = Fault fault.NotWritable
+if_writable false o = Fault cause.NotWritable
 
 abbrev pub then_do : Outcome → (State → Outcome) → Outcome
 then_do (Falls s) f = f s

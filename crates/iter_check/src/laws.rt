@@ -2,8 +2,8 @@
 
 ghost use Rattle.iter_check.specs.Laws.{StoreLaw, LengthLaw};
 
-/// A store touches only its field's bytes, which are then those of its value.
-pub fn law_store_touches_only_its_field()
+/// A store touches only the bytes of its element, which are then those of its value.
+pub fn law_store_touches_only_its_element()
     ensures { StoreLaw }
 {}
 

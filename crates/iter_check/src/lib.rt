@@ -7,4 +7,4 @@
 
 mod laws;
 
-pub use laws::{law_iteration_keeps_lengths, law_store_touches_only_its_field};
+pub use laws::{law_iteration_keeps_lengths, law_store_touches_only_its_element};
