@@ -1,11 +1,10 @@
 -- Straight code: lets are slots, arguments are numbers, fields are offsets and widths, and there are no loops, names
 -- or scopes. What it means, and what an iteration and the start of a walk are by it.
 use Rattle.std.specs.Prelude.{ℕ, zero, suc, ◌-◌, ◌^◌, Bool, true, false, nat_eq, List, [], get_or, set, replicate, Option, Some, None}
-use Rattle.pulse_base.specs.declared.answer.FaultKind.TheVariants as fault
+use Rattle.pulse_base.specs.declared.answer.Cause.TheVariants as cause
 use Rattle.iter_syntax.specs.declared.tree.Width.{Width}
 use Rattle.iter_syntax.specs.declared.tree.BinaryOp.{BinaryOp}
 use Rattle.iter_syntax.specs.declared.tree.BinaryOp.TheVariants as op
-use Rattle.iter_check.specs.Layout.{width_bytes}
 use Rattle.iter_check.specs.FieldValue.{read_at, write_at}
 use Rattle.iter_check.specs.Value.{Value, Number, Truth, word, one, both, apply, binary}
 use Rattle.iter_check.specs.Iteration.{Iterated, Begun}
@@ -54,8 +53,8 @@ flat_value g s null = Number 0
 flat_value g s (arg k) = Number (get_or g.args k 0)
 flat_value g s (slot k) = Number (get_or s.slots k 0)
 flat_value g s cur = Number g.cur
-flat_value g s (cur_field o w) = Number (read_at s.record_bytes o (width_bytes w))
-flat_value g s (pad_field o w) = Number (read_at s.pad o (width_bytes w))
+flat_value g s (cur_field o w) = Number (read_at s.record_bytes o w)
+flat_value g s (pad_field o w) = Number (read_at s.pad o w)
 flat_value g s (not e) = one (λ x. Truth (nat_eq x 0)) (word (flat_value g s e))
 flat_value g s (flip e) = one (λ x. Number (2 ^ 64 - 1 - x)) (word (flat_value g s e))
 flat_value g s (bin o a b) = binary o (flat_value g s a) (flat_value g s b)
@@ -68,13 +67,13 @@ pub data Leaving : Type 0 where
 
 -- what a value is used for
 abbrev pub flat_given : Option ℕ → (ℕ → Leaving) → Leaving
-flat_given None f = Ends (i.Fault fault.DivZero)
+flat_given None f = Ends (i.Fault cause.DivZero)
 flat_given (Some v) f = f v
 
 -- goes on where the record may be written
 abbrev pub flat_writable : Bool → Leaving → Leaving
 flat_writable true o = o
-flat_writable false o = Ends (i.Fault fault.NotWritable)
+flat_writable false o = Ends (i.Fault cause.NotWritable)
 
 abbrev pub flat_then : Leaving → (Slots → Leaving) → Leaving
 flat_then (Falls s) f = f s
@@ -89,10 +88,10 @@ abbrev pub to_slot : ℕ → ℕ → Slots → Slots
 to_slot k v s = record s { slots = set s.slots k v }
 
 abbrev pub to_pad : ℕ → Width → ℕ → Slots → Slots
-to_pad o w v s = record s { pad = write_at s.pad o (width_bytes w) v }
+to_pad o w v s = record s { pad = write_at s.pad o w v }
 
 abbrev pub to_cur : ℕ → Width → ℕ → Slots → Slots
-to_cur o w v s = record s { record_bytes = write_at s.record_bytes o (width_bytes w) v }
+to_cur o w v s = record s { record_bytes = write_at s.record_bytes o w v }
 
 -- what the statements mean; a store's value is computed before the permission is asked
 abbrev pub flat_meaning : Fixed → Fs → Slots → Leaving
@@ -123,7 +122,7 @@ flat_iteration g end_part next_part record_bytes pad =
 abbrev pub flat_begun : Iterated → Begun
 flat_begun (i.Done record_bytes pad) = i.Ended pad
 flat_begun (i.Goes to record_bytes pad) = i.Ready to pad
-flat_begun (i.Fault k) = i.Faulted k
+flat_begun (i.Fault k) = i.DivZero
 
 -- the start of a walk: init on a zero pad, with no record
 abbrev pub flat_begin : Fs → List ℕ → ℕ → Begun
