@@ -1,2 +1,6 @@
 pub mod Flat
 pub mod Tree
+pub mod Limits
+pub mod Uses
+pub mod Span
+pub mod unrolling

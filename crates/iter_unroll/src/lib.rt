@@ -6,6 +6,8 @@
 //! No machine's instructions are known here.
 #![tactic(auto)]
 
+mod scope;
 mod tree;
 
+pub use scope::Meant;
 pub use tree::{Flat, FlatBlock, FlatExpr, FlatStmt, FlatUse};

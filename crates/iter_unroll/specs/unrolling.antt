@@ -1,0 +1,4 @@
+pub mod Scope
+pub mod Flattened
+pub mod Tied
+pub mod Whole
