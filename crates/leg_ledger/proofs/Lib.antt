@@ -1,2 +1,2 @@
-mod Keys
+pub mod Keys
 mod Replies

@@ -9,13 +9,10 @@ use Rattle.frame_codec.specs.declared.frame.Back.{Back}
 use Rattle.frame_codec.specs.declared.frame.Ending.TheVariants as ending
 use Rattle.leg_ledger.specs.declared.leg.LegKey.{LegKey}
 use Rattle.run_rules.specs.declared.node.LiveLeg.{LiveLeg}
+use Rattle.run_rules.specs.declared.node.Fate.{Fate}
+use Rattle.run_rules.specs.declared.node.Fate.TheVariants.{Stays, Ends}
 use Rattle.run_rules.specs.Outcome.{Outcome, Done, Goes, Faults, record_after}
 use Rattle.run_rules.specs.Node.{NodeState, key_of, back_of, same_key, find_live, spans_of, place_of, record_in, with_record}
-
--- what becomes of a leg in a turn
-pub data Fate : Type 0 where
-  Stays : Leg → Fate
-  Ends : Back → Fate
 
 -- the leg after an iteration that took effect
 abbrev pub moved : Leg → ℕ → List ℕ → Leg

@@ -91,3 +91,15 @@ BoundedWait =
     (n : NodeState) (l : Leg) (xs : List Move)
     → IsOrderly n → 1 ≤ l.left → (accept n l).1 ≡ Started → HaveLeft xs → l.left * n.slots ≤ count_turns xs
     → (find_live (moves (accept n l).0 xs).live (key_of l) ≡ None) × ((reply : Reply) × (m.get (moves (accept n l).0 xs).kept (key_of l) ≡ Some reply))
+
+-- A leg that is started waits at most its iterations times the slots, and no other leg's wait changes.
+abbrev pub StartedWait : Type 0
+StartedWait =
+    (n : NodeState) (l : Leg) → IsOrderly n → 1 ≤ l.left → (accept n l).1 ≡ Started
+    → ((w : ℕ) × (wait (accept n l).0 (key_of l) ≡ Some w) × (w ≤ l.left * n.slots)) × ((q : LegKey) → q ≢ key_of l → wait (accept n l).0 q ≡ wait n q)
+
+-- A turn of the first live leg lowers the wait of each leg that stays live by at least 1, and the sum of all waits.
+abbrev pub TurnWait : Type 0
+TurnWait =
+    (n : NodeState) (e : LiveLeg) (es : List LiveLeg) (outcome : Outcome) → IsOrderly n → n.live ≡ e ∷ es
+    → ((q : LegKey) (v : ℕ) → wait (turn n (key_of e.leg) outcome).0 q ≡ Some v → (w : ℕ) × (wait n q ≡ Some w) × (v + 1 ≤ w)) × (rest (turn n (key_of e.leg) outcome).0 + 1 ≤ rest n)

@@ -48,3 +48,12 @@ pub enum Accepted {
     /// The leg would have been started, and there was no memory for it.
     Memory,
 }
+
+/// What becomes of a live leg in a turn.
+#[derive(Clone, Copy, Debug, PartialEq, Eq)]
+pub enum Fate {
+    /// It stays live, as it stands now.
+    Stays(Leg),
+    /// It ended with this back.
+    Ends(Back),
+}
