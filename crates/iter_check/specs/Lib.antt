@@ -5,3 +5,14 @@ pub mod Value
 pub mod Meaning
 pub mod Iteration
 pub mod Laws
+pub mod Faults
+pub mod Scope
+pub mod Typing
+pub mod Expressions
+pub mod Scoping
+pub mod Paths
+pub mod Nodes
+pub mod Indices
+pub mod FaultList
+pub mod Accepted
+pub mod Words
