@@ -13,6 +13,7 @@ use Rattle.iter_check.specs.Layout.{text, size_of}
 use Rattle.iter_check.specs.declared.kind.CheckKind.{CheckKind}
 use Rattle.iter_check.specs.declared.kind.CheckKind.TheVariants as k
 use Rattle.iter_check.specs.declared.kind.Fault.{Fault}
+use Rattle.iter_check.specs.declared.sort.Sort.{Sort}
 use Rattle.iter_check.specs.declared.sort.Sort.TheVariants as s
 use Rattle.iter_check.specs.declared.sort.Part.{Part}
 use Rattle.iter_check.specs.declared.sort.Part.TheVariants as part
@@ -40,6 +41,10 @@ at_word kind (Some w) = fault kind w.place true
 -- there are at most so many
 abbrev pub one_more : {A : Type 0} → CheckKind → ℕ → (A → Word) → List A → List Fault
 one_more kind most name xs = at_word kind (option_map name (slice_get xs most))
+
+-- the names of a list differ, and there are at most so many
+abbrev pub names_faults : {A : Type 0} → CheckKind → ℕ → (A → Word) → List A → List Fault
+names_faults kind most name xs = twice name [] xs ++ one_more kind most name xs
 
 abbrev pub is_zero : Option ℕ → Bool
 is_zero None = false
@@ -69,10 +74,13 @@ fields_in (Some r) = r.fields
 abbrev pub record_fields : List RecordDecl → Iter → List FieldDecl
 record_fields records it = fields_in (record_for records it)
 
+abbrev pub arg_sort : Arg → Sort
+arg_sort a = if a.pointer then s.Ptr else s.Int
+
 -- the arguments in scope
 abbrev pub with_args : List Arg → Scope → Scope
 with_args [] scope = scope
-with_args (a ∷ args) scope = with_args args (bind a.name (Some (if a.pointer then s.Ptr else s.Int)) false scope)
+with_args (a ∷ args) scope = with_args args (bind a.name (Some (arg_sort a)) false scope)
 
 -- where a block of an iterator stands
 abbrev pub ground : List RecordDecl → Iter → Part → Ground
@@ -85,26 +93,33 @@ ground records it b = record {
 abbrev pub block_faults : Ground → Scope → Block → List Fault
 block_faults g scope b = scoping g scope (block b) ++ paths g.part false (block b)
 
-abbrev pub iter_faults : List RecordDecl → Iter → List Fault
-iter_faults records it =
+-- the same of a block that must end
+abbrev pub ending_faults : Ground → Scope → Block → List Fault
+ending_faults g scope b = block_faults g scope b ++ open_end (block b) b.close
+
+-- the faults of an iterator's record, pad and arguments
+abbrev pub head_faults : List RecordDecl → Iter → List Fault
+head_faults records it =
     fault k.Name (it.on).place (is_none (record_for records it))
     ++ fields_faults k.PadSize it.name it.pad
-    ++ twice (λ a. a.name) [] it.args
-    ++ one_more k.ArgCount 8 (λ a. a.name) it.args
-    ++ block_faults (ground records it part.Init) (with_args it.args []) it.init_part
-    ++ open_end (block it.init_part) (it.init_part).close
+    ++ names_faults k.ArgCount 8 (λ a. a.name) it.args
+
+abbrev pub iter_faults : List RecordDecl → Iter → List Fault
+iter_faults records it =
+    head_faults records it
+    ++ ending_faults (ground records it part.Init) (with_args it.args []) it.init_part
     ++ block_faults (ground records it part.End) [] it.end_part
-    ++ block_faults (ground records it part.Next) [] it.next_part
-    ++ open_end (block it.next_part) (it.next_part).close
+    ++ ending_faults (ground records it part.Next) [] it.next_part
+
+abbrev pub record_faults : RecordDecl → List Fault
+record_faults r = fields_faults k.RecordSize r.name r.fields
 
 -- all faults but those of Code and Index
 abbrev pub first_group : List RecordDecl → List Iter → List Fault
 first_group records iters =
-    twice (λ r. r.name) [] records
-    ++ one_more k.Count 64 (λ r. r.name) records
-    ++ twice (λ it. it.name) [] iters
-    ++ one_more k.Count 64 (λ it. it.name) iters
-    ++ flat_map (λ r. fields_faults k.RecordSize r.name r.fields) records
+    names_faults k.Count 64 (λ r. r.name) records
+    ++ names_faults k.Count 64 (λ it. it.name) iters
+    ++ flat_map record_faults records
     ++ flat_map (iter_faults records) iters
 
 -- the nodes of the init segment, and of the body segment: end and next together

@@ -1,8 +1,8 @@
 // An accepted program.
 
-ghost use Rattle.std.specs.Prelude.{◌≡◌, ◌≤◌, ◌<◌, [], length, map, position, bytes_eq, option_map, slice_get, Some};
-ghost use Rattle.iter_check.specs.Layout.{text, size_of};
-ghost use Rattle.iter_check.specs.FaultList.{fault_list, record_fields, init_nodes, body_nodes};
+ghost use Rattle.std.specs.Prelude.{◌≡◌, [], length, position, bytes_eq};
+ghost use Rattle.iter_check.specs.Layout.{text};
+ghost use Rattle.iter_check.specs.FaultList.{fault_list};
 
 use iter_syntax::Program;
 use std::marker::Model;
@@ -17,7 +17,11 @@ impl Model for Checked {
     ghost use Rattle.std.specs.Prelude.{◌≡◌, []};
     ghost use Rattle.iter_syntax.specs.declared.tree.Program.{Program};
 
+    ghost use Rattle.iter_syntax.specs.contracts.tree.Program as e;
+
     ghost Value = { Program };
+
+    ghost coded = { e.the_row.coded };
 
     ghost use Rattle.iter_check.specs.FaultList.{fault_list};
 
@@ -47,41 +51,5 @@ impl Checked {
         ensures { result ≡ position (λ it. bytes_eq (text it.name) name.now) (self.now).iters }
     {
         self.program.iters.as_slice().iter().position(|it| it.name.text.as_slice() == name)
-    }
-
-    /// The bytes of the iterator's records: 1 to 256.
-    pub fn record_size(&self, iter: usize) -> u16
-        requires { iter < length (self.now).iters }
-        ensures value { option_map (λ it. size_of (record_fields (self.now).records it)) (slice_get (self.now).iters iter) ≡ Some result }
-        ensures bounds { (1 ≤ result) × (result ≤ 256) }
-    {
-        1
-    }
-
-    /// The bytes of the iterator's pad: 1 to 256.
-    pub fn pad_size(&self, iter: usize) -> u16
-        requires { iter < length (self.now).iters }
-        ensures value { option_map (λ it. size_of it.pad) (slice_get (self.now).iters iter) ≡ Some result }
-        ensures bounds { (1 ≤ result) × (result ≤ 256) }
-    {
-        1
-    }
-
-    /// The number of the iterator's arguments: at most 8.
-    pub fn arg_count(&self, iter: usize) -> u8
-        requires { iter < length (self.now).iters }
-        ensures value { option_map (λ it. length it.args) (slice_get (self.now).iters iter) ≡ Some result }
-        ensures bound { result ≤ 8 }
-    {
-        1
-    }
-
-    /// The nodes of the iterator's init and of its body: at most 2,000 each.
-    pub fn node_counts(&self, iter: usize) -> (u32, u32)
-        requires { iter < length (self.now).iters }
-        ensures value { option_map (λ it. (init_nodes it, body_nodes it)) (slice_get (self.now).iters iter) ≡ Some result }
-        ensures bounds { (result.0 ≤ 2000) × (result.1 ≤ 2000) }
-    {
-        (1, 1)
     }
 }
