@@ -1,5 +1,3 @@
-pub mod NamesLaws
-pub mod SlotLaws
 pub mod StsLaws
 pub mod RegionLaws
 pub mod RunLaws

@@ -11,7 +11,7 @@ use Rattle.iter_check.specs.Laws.{Leaves}
 use Rattle.iter_check.proofs.LengthLaws.{iteration_leaves}
 use Rattle.flat_run.specs.declared.iteration.Iterated as c
 use Rattle.flat_run.specs.declared.iteration.Iterated.TheVariants as x
-use Rattle.flat_run.specs.Interpreter.{iterated_of, Fits, HasRoom}
+use Rattle.flat_run.specs.Views.Interpreter.{iterated_of, Fits, HasRoom}
 use Rattle.range_table.specs.declared.region.RegionSpan.{RegionSpan}
 use Rattle.std.specs.Prelude.{slice_get}
 use Rattle.range_table.specs.Memory.{holds, region_of}

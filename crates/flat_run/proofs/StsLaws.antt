@@ -20,7 +20,7 @@ use Rattle.iter_syntax.proofs.FoldLaws.{block_is}
 use Rattle.flat_run.specs.declared.value.State as r
 use Rattle.flat_run.specs.declared.statements.Ending.{Ending}
 use Rattle.flat_run.specs.declared.statements.Ending.TheVariants as ending
-use Rattle.flat_run.specs.Interpreter.{state_of, outcome_of, is_falls}
+use Rattle.flat_run.specs.Views.Interpreter.{state_of, outcome_of, is_falls}
 
 -- how many statements there are
 abbrev pub weight : Sts → ℕ

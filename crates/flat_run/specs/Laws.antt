@@ -1,6 +1,6 @@
 -- What holds of each step and of each run, whatever the iterators.
 use Rattle.std.specs.Prelude.{◌≡◌, ◌≢◌, ◌+◌, ◌-◌, ◌==◌, ℕ, false, List, ◌++◌, take, drop, count_by, Option, Some, None, slice_get}
-use Rattle.pulse_base.specs.declared.answer.FaultKind.{FaultKind}
+use Rattle.pulse_base.specs.declared.answer.Cause.{Cause}
 use Rattle.iter_check.specs.Iteration.{Fault}
 use Rattle.flat_run.specs.declared.state.FlatRegion.{FlatRegion}
 use Rattle.flat_run.specs.declared.state.FlatRequest.{FlatRequest}
@@ -31,7 +31,7 @@ RegionsLaw =
 -- an iteration that faults leaves the memory as it was
 abbrev pub FaultLaw : Type 0
 FaultLaw =
-    (walks : List Walk) (limit : ℕ) (s : FlatState) (r : ℕ) (t : Turn) (k : FaultKind)
+    (walks : List Walk) (limit : ℕ) (s : FlatState) (r : ℕ) (t : Turn) (k : Cause)
     → turn_of walks limit s r ≡ Some t → iterates s t ≡ Fault k → (flat_step walks limit s r).regions ≡ s.regions
 
 -- where a request can't step, nothing changes

@@ -4,7 +4,5 @@ pub mod Region
 pub mod Step
 pub mod Run
 pub mod Due
-pub mod NamesView
-pub mod Slots
-pub mod Interpreter
 pub mod Laws
+pub mod Views

@@ -1,6 +1,7 @@
 -- A request in a flat run, and how it starts.
 use Rattle.std.specs.Prelude.{List, map}
-use Rattle.iter_check.specs.Iteration.{Begun, Ready, Ended, Faulted, begin}
+use Rattle.pulse_base.specs.declared.answer.FaultKind.TheVariants as fault
+use Rattle.iter_check.specs.Iteration.{Begun, Ready, Ended, DivZero, begin}
 use Rattle.flat_run.specs.declared.state.FlatRegion.{FlatRegion}
 use Rattle.flat_run.specs.declared.state.FlatRequest.{FlatRequest}
 use Rattle.flat_run.specs.declared.state.FlatRequest.TheVariants as request
@@ -10,7 +11,7 @@ use Rattle.flat_run.specs.Walk.{Walk}
 abbrev pub first_of : Begun → FlatRequest
 first_of (Ready cur pad) = request.Ready cur pad 0
 first_of (Ended pad) = request.Done pad 0
-first_of (Faulted kind) = request.Fault kind 0 0
+first_of DivZero = request.Fault fault.DivZero 0 0
 
 -- a request when it was asked: its init has run
 abbrev pub asked : Walk → FlatRequest

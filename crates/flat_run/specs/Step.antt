@@ -1,5 +1,6 @@
 -- One step of a flat run: which request can step, and what its step changes.
 use Rattle.std.specs.Prelude.{ℕ, ◌+◌, Bool, List, Option, Some, None, is_some, nat_lt, slice_get, slice_set, if◌then◌else◌}
+use Rattle.pulse_base.specs.Cause.{kind_of}
 use Rattle.range_table.specs.declared.region.RegionSpan.{RegionSpan}
 use Rattle.range_table.specs.Memory.{Arrival, Here, NotReadable, Unmapped, arrive, may_write}
 use Rattle.iter_check.specs.Iteration.{Iterated, iteration}
@@ -42,7 +43,7 @@ settled s r t (i.Done bytes pad) =
     record { regions = put_record s.regions t.region t.cur bytes; requests = slice_set s.requests r (request.Done pad (t.count + 1)) }
 settled s r t (i.Goes to bytes pad) =
     record { regions = put_record s.regions t.region t.cur bytes; requests = slice_set s.requests r (request.Ready to pad (t.count + 1)) }
-settled s r t (i.Fault kind) = record s { requests = slice_set s.requests r (request.Fault kind t.cur t.count) }
+settled s r t (i.Fault cause) = record s { requests = slice_set s.requests r (request.Fault (kind_of cause) t.cur t.count) }
 
 -- the iteration of a turn
 abbrev pub iterates : FlatState → Turn → Iterated

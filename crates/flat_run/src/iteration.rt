@@ -1,16 +1,15 @@
 // One iteration at a record, and the init of a walk.
 
-ghost use Rattle.std.specs.Prelude.{◌≡◌, ◌^◌, ◌≤◌, [], IfOk, MatchOption, replicate};
+ghost use Rattle.std.specs.Prelude.{◌≡◌, [], IfOk, replicate};
 ghost use Rattle.iter_check.specs.Layout.{size_of};
 ghost use Rattle.iter_check.specs.Iteration as i;
-ghost use Rattle.flat_run.specs.Interpreter.{setting_of, state_of, outcome_of, iterated_of, begun_of};
+ghost use Rattle.flat_run.specs.Views.Interpreter.{setting_of, state_of, outcome_of, iterated_of, begun_of};
 
-use crate::fields::field_size;
-use crate::names::Names;
 use crate::statements::{Ending, run_row};
 use crate::value::{Setting, State};
+use iter_check::{Names, size_of};
 use iter_syntax::{Arg, FieldDecl, Iter};
-use pulse_base::{Bytes, FaultKind, Listed, Memory};
+use pulse_base::{Bytes, Cause, Listed, Memory};
 use std::alloc::Global;
 
 /// What an iteration gives: the walk is done or goes to a pointer, with the bytes of the record and of
@@ -19,16 +18,16 @@ use std::alloc::Global;
 pub enum Iterated {
     Done { record: Bytes, pad: Bytes },
     Goes { to: u64, record: Bytes, pad: Bytes },
-    Fault(FaultKind),
+    Fault(Cause),
 }
 
-/// What init gives: the first pointer and pad of a walk, the pad of one that is done at once, or its
-/// fault.
+/// What init gives: the first pointer and pad of a walk, the pad of one that is done at once, or a
+/// division by zero.
 #[derive(Debug, Drop)]
 pub enum Begun {
     Ready { cur: u64, pad: Bytes },
     Ended { pad: Bytes },
-    Faulted(FaultKind),
+    DivZero,
 }
 
 fn copied(alloc: Global, bytes: &[u8]) -> Result<Vec<u8>, Memory>
@@ -54,7 +53,7 @@ fn after_iteration(ending: Ending, state: State) -> Iterated
         Ending::Falls => Iterated::Done { record, pad },
         Ending::Done => Iterated::Done { record, pad },
         Ending::Goes(to) => Iterated::Goes { to, record, pad },
-        Ending::Fault(kind) => Iterated::Fault(kind),
+        Ending::Fault(cause) => Iterated::Fault(cause),
     }
 }
 
@@ -106,23 +105,6 @@ pub fn iterate(
     end_then_next(alloc, &setting, it, state)
 }
 
-/// How many bytes a record or a pad has; none where the number is past 2^64 - 1.
-pub fn size_of(fields: &[FieldDecl]) -> Option<u64>
-    ensures { MatchOption result (2 ^ 64 ≤ size_of fields.now) (λ n. n ≡ size_of fields.now) }
-{
-    let mut size: u64 = 0;
-    'fields: for field in fields {
-        match field_size(field) {
-            None => return None,
-            Some(more) => match size.checked_add(more) {
-                None => return None,
-                Some(sum) => size = sum,
-            },
-        }
-    }
-    Some(size)
-}
-
 // A pad of zeros, as long as the fields are.
 fn zero_pad(alloc: Global, fields: &[FieldDecl]) -> Result<Vec<u8>, Memory>
     ensures { IfOk result (λ v. v.items ≡ replicate (size_of fields.now) 0) }
@@ -162,7 +144,7 @@ fn after_init(ending: Ending, state: State) -> Begun
         Ending::Falls => Begun::Ended { pad },
         Ending::Done => Begun::Ended { pad },
         Ending::Goes(cur) => Begun::Ready { cur, pad },
-        Ending::Fault(kind) => Begun::Faulted(kind),
+        Ending::Fault(_) => Begun::DivZero,
     }
 }
 

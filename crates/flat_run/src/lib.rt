@@ -7,10 +7,8 @@
 #![tactic(auto)]
 
 mod due;
-mod fields;
 mod iteration;
 mod laws;
-mod names;
 mod order;
 mod state;
 mod statements;
@@ -19,18 +17,17 @@ mod value;
 mod walk;
 
 pub use due::due_answer;
-pub use iteration::{Begun, Iterated, begin, iterate, size_of};
+pub use iteration::{Begun, Iterated, begin, iterate};
 pub use laws::{
     law_counts_are_places, law_fault_leaves_memory, law_no_step_changes_nothing,
     law_run_goes_on_where_it_ended, law_step_changes_only_its_record,
     law_step_leaves_other_regions, law_step_leaves_other_requests,
 };
-pub use names::Names;
 pub use order::{run, start};
 pub use state::{FlatRegion, FlatRegions, FlatRequest, FlatRequests, FlatState};
 pub use statements::{Ending, run_row};
 pub use turn::{can_step, step};
-pub use value::{Setting, State, Value, value_of};
+pub use value::{Setting, State, value_of};
 pub use walk::FlatWalk;
 
 #[cfg(test)]

@@ -9,7 +9,7 @@ use crate::iteration::{Begun, begin};
 use crate::state::{FlatRegions, FlatRequest, FlatState};
 use crate::turn::{can_step, step};
 use crate::walk::FlatWalk;
-use pulse_base::{Listed, Memory};
+use pulse_base::{FaultKind, Listed, Memory};
 use std::alloc::Global;
 
 fn asked(alloc: Global, walk: &FlatWalk) -> Result<FlatRequest, Memory>
@@ -18,8 +18,8 @@ fn asked(alloc: Global, walk: &FlatWalk) -> Result<FlatRequest, Memory>
     match begin(alloc, walk.iter, walk.args)? {
         Begun::Ready { cur, pad } => Ok(FlatRequest::Ready { cur, pad, count: 0 }),
         Begun::Ended { pad } => Ok(FlatRequest::Done { pad, count: 0 }),
-        Begun::Faulted(kind) => Ok(FlatRequest::Fault {
-            kind,
+        Begun::DivZero => Ok(FlatRequest::Fault {
+            kind: FaultKind::DivZero,
             cur: 0,
             count: 0,
         }),

@@ -5,12 +5,12 @@ ghost use Rattle.iter_syntax.specs.declared.tree.Place.{Place};
 ghost use Rattle.iter_syntax.specs.Tree.{ex, st, sts, block, end, used, to_pad, to_cur};
 ghost use Rattle.iter_check.specs.Value as v;
 ghost use Rattle.iter_check.specs.Meaning.{meaning, inside, within, turns, declare};
-ghost use Rattle.flat_run.specs.Interpreter.{setting_of, state_of, outcome_of, index_of, is_falls};
+ghost use Rattle.flat_run.specs.Views.Interpreter.{setting_of, state_of, outcome_of, index_of, is_falls};
 
-use crate::fields::write_item;
-use crate::value::{Setting, State, value_of, word};
+use crate::value::{Setting, State, value_of};
+use iter_check::{word, write_item};
 use iter_syntax::{Block, Expr, FieldUse, Stmt, Word};
-use pulse_base::{FaultKind, Memory};
+use pulse_base::{Cause, Memory};
 use std::alloc::Global;
 
 /// Where statements lead: they fall through, are done, go to a pointer, or fault.
@@ -19,7 +19,7 @@ pub enum Ending {
     Falls,
     Done,
     Goes(u64),
-    Fault(FaultKind),
+    Fault(Cause),
 }
 
 impl Ending {
@@ -57,9 +57,9 @@ fn store_pad(setting: &Setting, state: &mut State, target: &FieldUse, value: &Ex
     ensures { (p : Place) → outcome_of result state.new ≡ meaning (setting_of setting.now) (to_pad p (used target.now).0 (used target.now).1 (ex value.now) end) (state_of state.old) }
 {
     match index(setting, state, target) {
-        None => Ending::Fault(FaultKind::DivZero),
+        None => Ending::Fault(Cause::DivZero),
         Some(i) => match number(setting, state, value) {
-            None => Ending::Fault(FaultKind::DivZero),
+            None => Ending::Fault(Cause::DivZero),
             Some(v) => {
                 write_item(setting.pad_fields, &target.name, i, v, &mut state.pad);
                 Ending::Falls
@@ -72,15 +72,15 @@ fn store_record(setting: &Setting, state: &mut State, target: &FieldUse, value: 
     ensures { (p : Place) → outcome_of result state.new ≡ meaning (setting_of setting.now) (to_cur p (used target.now).0 (used target.now).1 (ex value.now) end) (state_of state.old) }
 {
     match index(setting, state, target) {
-        None => Ending::Fault(FaultKind::DivZero),
+        None => Ending::Fault(Cause::DivZero),
         Some(i) => match number(setting, state, value) {
-            None => Ending::Fault(FaultKind::DivZero),
+            None => Ending::Fault(Cause::DivZero),
             Some(v) => {
                 if setting.writable {
                     write_item(setting.record_fields, &target.name, i, v, &mut state.record);
                     Ending::Falls
                 } else {
-                    Ending::Fault(FaultKind::NotWritable)
+                    Ending::Fault(Cause::NotWritable)
                 }
             }
         },
@@ -93,14 +93,14 @@ fn run_stmt(alloc: Global, setting: &Setting, state: &mut State, s: &Stmt) -> Re
 {
     match s {
         Stmt::Let { name, value, .. } => match number(setting, state, value) {
-            None => Ok(Ending::Fault(FaultKind::DivZero)),
+            None => Ok(Ending::Fault(Cause::DivZero)),
             Some(v) => {
                 state.names.declare(alloc, name, v)?;
                 Ok(Ending::Falls)
             }
         },
         Stmt::Set { name, value, .. } => match number(setting, state, value) {
-            None => Ok(Ending::Fault(FaultKind::DivZero)),
+            None => Ok(Ending::Fault(Cause::DivZero)),
             Some(v) => {
                 state.names.change(name, v);
                 Ok(Ending::Falls)
@@ -109,7 +109,7 @@ fn run_stmt(alloc: Global, setting: &Setting, state: &mut State, s: &Stmt) -> Re
         Stmt::SetPad { target, value, .. } => Ok(store_pad(setting, state, target, value)),
         Stmt::SetCur { target, value, .. } => Ok(store_record(setting, state, target, value)),
         Stmt::If { test, yes, no, .. } => match number(setting, state, test) {
-            None => Ok(Ending::Fault(FaultKind::DivZero)),
+            None => Ok(Ending::Fault(Cause::DivZero)),
             Some(0) => match no {
                 None => Ok(Ending::Falls),
                 Some(other) => run_block(alloc, setting, state, other),
@@ -125,7 +125,7 @@ fn run_stmt(alloc: Global, setting: &Setting, state: &mut State, s: &Stmt) -> Re
         } => run_loop(alloc, setting, state, name, *first, *past, body),
         Stmt::Done { .. } => Ok(Ending::Done),
         Stmt::Go { to, .. } => match number(setting, state, to) {
-            None => Ok(Ending::Fault(FaultKind::DivZero)),
+            None => Ok(Ending::Fault(Cause::DivZero)),
             Some(v) => Ok(Ending::Goes(v)),
         },
     }

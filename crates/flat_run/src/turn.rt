@@ -6,13 +6,14 @@ ghost use Rattle.iter_check.specs.Layout as l;
 ghost use Rattle.flat_run.specs.Walk.{walk_of, walks_of};
 ghost use Rattle.flat_run.specs.Region.{spans, bytes_at, spliced, put_record};
 ghost use Rattle.flat_run.specs.Step as s;
-ghost use Rattle.flat_run.specs.Interpreter.{iterated_of, turn_is, Fits, HasRoom};
+ghost use Rattle.flat_run.specs.Views.Interpreter.{iterated_of, turn_is, Fits, HasRoom};
 
-use crate::iteration::{Iterated, iterate, size_of};
+use crate::iteration::{Iterated, iterate};
 use crate::state::{FlatRegion, FlatRegions, FlatRequest, FlatRequests, FlatState};
 use crate::walk::FlatWalk;
+use iter_check::size_of;
 use iter_syntax::FieldDecl;
-use pulse_base::{Listed, Memory};
+use pulse_base::{FaultKind, Listed, Memory};
 use range_table::RegionSpan;
 use std::alloc::Global;
 use std::mem;
@@ -241,7 +242,10 @@ fn settle(
             let (cur, count) = (to, count + 1);
             FlatRequest::Ready { cur, pad, count }
         }
-        Iterated::Fault(kind) => FlatRequest::Fault { kind, cur, count },
+        Iterated::Fault(cause) => {
+            let kind = FaultKind::from(cause);
+            FlatRequest::Fault { kind, cur, count }
+        }
     };
     put_request(alloc, &mut state.requests, r, request);
 }

@@ -1,17 +1,16 @@
 // What an expression is worth.
 
-ghost use Rattle.std.specs.Prelude.{◌≡◌, ◌-◌, ◌^◌, MatchOption, nat_eq, ⊤};
+ghost use Rattle.std.specs.Prelude.{◌≡◌};
 ghost use Rattle.iter_syntax.specs.Tree.{ex};
-ghost use Rattle.iter_syntax.specs.declared.tree.BinaryOp.TheVariants as op;
 ghost use Rattle.iter_check.specs.Value as v;
 ghost use Rattle.iter_check.specs.FieldValue.{read_item};
 ghost use Rattle.iter_check.specs.Layout.{text, find_field};
-ghost use Rattle.flat_run.specs.declared.value.Value.TheVariants as value;
-ghost use Rattle.flat_run.specs.Interpreter.{worth, setting_of, state_of};
+ghost use Rattle.iter_check.specs.Views.Worth.{worth};
+ghost use Rattle.iter_check.specs.declared.value.Value.TheVariants as value;
+ghost use Rattle.flat_run.specs.Views.Interpreter.{setting_of, state_of};
 
-use crate::fields::read_item;
-use crate::names::Names;
-use iter_syntax::{BinaryOp, Expr, FieldDecl, Word};
+use iter_check::{Names, Value, binary, decided, flipped, moved, negated, read_item, word};
+use iter_syntax::{Expr, FieldDecl, Word};
 
 /// What stays the same while an iteration runs: the fields of its record and of its pad, the pointer
 /// to the record, and whether the record may be written.
@@ -29,134 +28,6 @@ pub struct State {
     pub record: Vec<u8>,
     pub pad: Vec<u8>,
     pub names: Names,
-}
-
-#[derive(Clone, Copy, Debug, PartialEq, Eq)]
-pub enum Value {
-    Number(u64),
-    Truth(bool),
-    DivZero,
-}
-
-// The number that stands for a value; a division by zero has none.
-pub(crate) fn word(value: Value) -> Option<u64>
-    ensures { result ≡ v.word (worth value) }
-{
-    match value {
-        Value::Number(n) => Some(n),
-        Value::Truth(b) => Some(if b { 1 } else { 0 }),
-        Value::DivZero => None,
-    }
-}
-
-fn divide(x: u64, y: u64) -> Value
-    ensures { worth result ≡ v.apply op.Div x y }
-{
-    if y == 0 {
-        Value::DivZero
-    } else {
-        Value::Number(x / y)
-    }
-}
-
-fn remainder(x: u64, y: u64) -> Value
-    ensures { worth result ≡ v.apply op.Mod x y }
-{
-    if y == 0 {
-        Value::DivZero
-    } else {
-        Value::Number(x % y)
-    }
-}
-
-// A binary operator on two numbers.
-fn apply(op: BinaryOp, x: u64, y: u64) -> Value
-    ensures { worth result ≡ v.apply op x y }
-{
-    match op {
-        BinaryOp::Or => Value::Number(y),
-        BinaryOp::And => Value::Number(y),
-        BinaryOp::Eq => Value::Truth(x == y),
-        BinaryOp::Ne => Value::Truth(x != y),
-        BinaryOp::Lt => Value::Truth(x < y),
-        BinaryOp::Le => Value::Truth(x <= y),
-        BinaryOp::Gt => Value::Truth(x > y),
-        BinaryOp::Ge => Value::Truth(x >= y),
-        BinaryOp::BitAnd => Value::Number(x & y),
-        BinaryOp::BitOr => Value::Number(x | y),
-        BinaryOp::BitXor => Value::Number(x ^ y),
-        BinaryOp::Shl => Value::Number(x.wrapping_shl((y % 64) as u32)),
-        BinaryOp::Shr => Value::Number(x.wrapping_shr((y % 64) as u32)),
-        BinaryOp::Add => Value::Number(x.wrapping_add(y)),
-        BinaryOp::Sub => Value::Number(x.wrapping_sub(y)),
-        BinaryOp::Mul => Value::Number(x.wrapping_mul(y)),
-        BinaryOp::Div => divide(x, y),
-        BinaryOp::Mod => remainder(x, y),
-    }
-}
-
-// The value of a binary expression where its left side alone decides it.
-fn decided(op: BinaryOp, left: Value) -> Option<Value>
-    ensures { MatchOption result ⊤ (λ r. (right : v.Value) → worth r ≡ v.binary op (worth left) right) }
-{
-    match word(left) {
-        None => Some(Value::DivZero),
-        Some(0) => {
-            if op == BinaryOp::And {
-                Some(left)
-            } else {
-                None
-            }
-        }
-        Some(_) => { if op == BinaryOp::Or { Some(left) } else { None } }
-    }
-}
-
-// The value of a binary expression by those of its sides.
-fn combined(op: BinaryOp, left: Value, right: Value) -> Value
-    ensures { worth result ≡ v.binary op (worth left) (worth right) }
-{
-    match word(left) {
-        None => Value::DivZero,
-        Some(x) => match op {
-            BinaryOp::Or => if x == 0 { right } else { left },
-            BinaryOp::And => if x == 0 { left } else { right },
-            _ => match word(right) {
-                None => Value::DivZero,
-                Some(y) => apply(op, x, y),
-            },
-        },
-    }
-}
-
-fn negated(value: Value) -> Value
-    ensures { worth result ≡ v.one (λ x. v.Truth (nat_eq x 0)) (v.word (worth value)) }
-{
-    match word(value) {
-        None => Value::DivZero,
-        Some(x) => Value::Truth(x == 0),
-    }
-}
-
-fn flipped(value: Value) -> Value
-    ensures { worth result ≡ v.one (λ x. v.Number (2 ^ 64 - 1 - x)) (v.word (worth value)) }
-{
-    match word(value) {
-        None => Value::DivZero,
-        Some(x) => Value::Number(u64::MAX - x),
-    }
-}
-
-fn moved(base: Value, offset: Value) -> Value
-    ensures { worth result ≡ v.both (v.apply op.Add) (v.word (worth base)) (v.word (worth offset)) }
-{
-    match word(base) {
-        None => Value::DivZero,
-        Some(x) => match word(offset) {
-            None => Value::DivZero,
-            Some(y) => apply(BinaryOp::Add, x, y),
-        },
-    }
 }
 
 // The value of an element of a field.
@@ -200,7 +71,7 @@ pub fn value_of(setting: &Setting, state: &State, e: &Expr) -> Value
             let first = value_of(setting, state, left.get());
             match decided(*op, first) {
                 Some(known) => known,
-                None => combined(*op, first, value_of(setting, state, right.get())),
+                None => binary(*op, first, value_of(setting, state, right.get())),
             }
         }
         Expr::At { base, offset, .. } => {

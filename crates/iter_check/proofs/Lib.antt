@@ -1,3 +1,5 @@
 pub mod LengthLaws
 pub mod MeaningLaws
 pub mod StoreLaws
+pub mod NamesLaws
+pub mod SlotLaws

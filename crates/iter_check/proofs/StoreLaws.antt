@@ -7,7 +7,7 @@ use Rattle.iter_check.specs.FieldValue.{bytes_of, item_at, write_at}
 use Rattle.iter_check.specs.Laws.{StoresAlone, StoreLaw}
 use Rattle.iter_check.proofs.LengthLaws.{length-bytes_of, length-write_at}
 
-if_so : {A : Type 0} (b : Bool) (x y : A) → b ≡ true → (if b then x else y) ≡ x
+pub if_so : {A : Type 0} (b : Bool) (x y : A) → b ≡ true → (if b then x else y) ≡ x
 if_so true x y e = refl
 if_so false x y e = cc
 

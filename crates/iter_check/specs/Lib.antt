@@ -16,3 +16,4 @@ pub mod Indices
 pub mod FaultList
 pub mod Accepted
 pub mod Words
+pub mod Views

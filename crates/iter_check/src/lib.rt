@@ -1,4 +1,5 @@
-//! What a program of iterators means, and which programs are accepted.
+//! What a program of iterators means, which programs are accepted, and the parts of running one that other
+//! crates share.
 //!
 //! Read `specs/` first, in the order `Layout`, `FieldValue`, `State`, `Value`, `Meaning`, `Iteration`:
 //! they say where fields lie, what an expression is worth, what statements do, and what one iteration
@@ -6,19 +7,29 @@
 //!
 //! Then, for the faults of a program, `Faults`, `Scope`, `Typing`, `Expressions`, `Scoping`, `Paths`,
 //! `Nodes`, `Indices` and `FaultList`: each rule is one line there. [`check`] accepts a program whose
-//! fault list is empty. Nothing here runs or compiles a program.
+//! fault list is empty. What stands in `specs/Views` says how the code holds a place, a value and the names in
+//! scope; nobody needs it to know what a program means. Nothing here runs an iterator or compiles a program.
 #![tactic(auto)]
 
 mod checked;
 mod checker;
+mod fields;
 mod kind;
 mod laws;
 mod loops;
+mod names;
 mod scope;
 mod sort;
+mod value;
 
 pub use checked::Checked;
 pub use checker::check;
+pub use fields::{
+    Slot, elements, field_size, find_field, read_at, read_item, size_of, width_bytes, write_at,
+    write_item,
+};
 pub use kind::{CheckError, CheckKind, Fault};
 pub use laws::{law_iteration_keeps_lengths, law_store_touches_only_its_element};
+pub use names::Names;
 pub use sort::{Part, Sort};
+pub use value::{Value, apply, binary, decided, flipped, moved, negated, word};

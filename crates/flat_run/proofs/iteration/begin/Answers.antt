@@ -2,7 +2,7 @@ use Rattle.std.proofs.Common.{ap, ◌∙◌, replicate}
 use Rattle.iter_check.specs.Layout.{size_of}
 use Rattle.iter_check.specs.Iteration.{with_arguments}
 use Rattle.std.specs.Prelude.{[]}
-use Rattle.flat_run.specs.Interpreter.{outcome_of}
+use Rattle.flat_run.specs.Views.Interpreter.{outcome_of}
 use Rattle.flat_run.proofs.StsLaws.{begun_by}
 use Rattle.flat_run.proofs.iteration.begin.Goals as goal
 

@@ -5,7 +5,7 @@ use Rattle.iter_check.specs.State.{Names, State}
 use Rattle.iter_check.specs.Meaning.{meaning}
 use Rattle.iter_check.specs.Iteration.{iterated}
 use Rattle.iter_syntax.proofs.FoldLaws.{block_is}
-use Rattle.flat_run.specs.Interpreter.{setting_of, state_of, is_falls}
+use Rattle.flat_run.specs.Views.Interpreter.{setting_of, state_of, is_falls}
 use Rattle.flat_run.proofs.StsLaws.{ended, went_on}
 use Rattle.flat_run.proofs.iteration.end_then_next.Goals as goal
 

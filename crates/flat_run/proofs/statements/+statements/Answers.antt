@@ -3,7 +3,7 @@ use Rattle.iter_syntax.specs.Tree.{block, sts}
 use Rattle.iter_check.specs.State.{Names, State}
 use Rattle.iter_check.specs.Meaning.{meaning, within}
 use Rattle.iter_syntax.proofs.FoldLaws.{block_is}
-use Rattle.flat_run.specs.Interpreter.{setting_of, state_of, outcome_of, is_falls}
+use Rattle.flat_run.specs.Views.Interpreter.{setting_of, state_of, outcome_of, is_falls}
 use Rattle.flat_run.proofs.StsLaws.{weight, weight_drop, row_stops, row_goes_on, turn_stops, turn_goes_on}
 use Rattle.flat_run.proofs.statements.+statements.Goals as goal
 

@@ -3,7 +3,7 @@ use Rattle.iter_syntax.specs.declared.tree.Stmt.{Stmt}
 use Rattle.iter_syntax.specs.Tree.{st, sts, block, end}
 use Rattle.iter_check.specs.State.{Setting, State}
 use Rattle.iter_check.specs.Meaning.{meaning, turns}
-use Rattle.flat_run.specs.Interpreter.{setting_of, state_of}
+use Rattle.flat_run.specs.Views.Interpreter.{setting_of, state_of}
 use Rattle.flat_run.proofs.StsLaws.{weight}
 use Rattle.flat_run.proofs.statements.+statements.Given as goal
 

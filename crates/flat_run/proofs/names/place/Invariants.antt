@@ -1,7 +1,0 @@
-use Rattle.std.proofs.Common.{◌≡◌, ◌+◌, drop}
-use Rattle.iter_check.specs.Layout.{text}
-use Rattle.flat_run.specs.NamesView.{place_in}
-use Rattle.flat_run.proofs.names.place.Given as goal
-
-abbrev pub invariant-loop-i : goal.invariant-loop-i
-invariant-loop-i l = place_in (text l.word) l.names ≡ l.i + place_in (text l.word) (drop l.i l.names)

@@ -1,0 +1,3 @@
+pub mod NamesView
+pub mod Slots
+pub mod Worth
