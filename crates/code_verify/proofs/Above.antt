@@ -3,7 +3,7 @@ use Rattle.std.proofs.Common.{◌≡◌, ℕ, zero, suc, ◌+◌, ◌-◌, ◌*�
 use Rattle.std.specs.List.{slice_get}
 use Rattle.pulse_isa.specs.declared.instr.Instr.{Instr}
 use Rattle.pulse_isa.specs.declared.instr.Instr.TheVariants.{Load, GetW, PutW, GetP, PutP, GetC, SetL, SetH, Mov, Add, Sub, Mul, Div, Mod, And, Or, Xor, Not, Shl, Shr, Jmp, Jeq, Jne, Jlt, Jle, Return, NextIter}
-use Rattle.pulse_isa.specs.Step.{Window, State, After, On, Ends, given, reading, with_reg, with_regs, permitted, divisible, put, put_pad, put_bytes, jump_if, is_inside, step, Goes}
+use Rattle.pulse_isa.specs.Step.{Window, State, After, On, Ends, given, reading, with_reg, with_regs, permitted, divisible, put, put_quotient, put_pad, put_bytes, jump_if, is_inside, step, Goes}
 use Rattle.pulse_isa.specs.Bytes.{is_width, number_at, stored_at}
 use Rattle.code_verify.specs.declared.bad.Sizes.{Sizes}
 use Rattle.code_verify.specs.Rules.{Verified}
@@ -62,8 +62,10 @@ above_pair f b c s h =
 above_binary : (g : ℕ → ℕ → ℕ) (a b c : ℕ) (s : State) → Above s.place (with_regs s b c (λ x y. put a (g x y) s))
 above_binary g a b c s = above_pair (λ x y. put a (g x y) s) b c s (λ x y. above_put a (g x y) s)
 
-above_division : (g : ℕ → ℕ → ℕ) (a b c : ℕ) (s : State) → Above s.place (with_regs s b c (λ x y. divisible y (put a (g x y) s)))
-above_division g a b c s = above_pair (λ x y. divisible y (put a (g x y) s)) b c s (λ x y. above_divisible s.place y (put a (g x y) s) (above_put a (g x y) s))
+above_division : (g : ℕ → ℕ → ℕ) (a b c : ℕ) (s : State) → Above s.place (with_regs s b c (λ x y. put_quotient a y (g x y) s))
+above_division g a b c s =
+    above_pair (λ x y. put_quotient a y (g x y) s) b c s
+    (λ x y. above_given s.place (nat_lt a (length s.regs)) (divisible y (put a (g x y) s)) (above_divisible s.place y (put a (g x y) s) (above_put a (g x y) s)))
 
 above_branch : (test : ℕ → ℕ → Bool) (a b to : ℕ) (s : State) → s.place < to → Above s.place (with_regs s a b (λ x y. jump_if (test x y) to s))
 above_branch test a b to s h = above_pair (λ x y. jump_if (test x y) to s) a b s (λ x y. above_jump (test x y) to s h)

@@ -7,7 +7,7 @@ use Rattle.pulse_isa.specs.declared.instr.Instr.{Instr}
 use Rattle.pulse_isa.specs.declared.instr.Instr.TheVariants.{Load, GetW, PutW, GetP, PutP, GetC, SetL, SetH, Mov, Add, Sub, Mul, Div, Mod, And, Or, Xor, Not, Shl, Shr, Jmp, Jeq, Jne, Jlt, Jle, Return, NextIter}
 use Rattle.pulse_isa.specs.Bytes.{is_width, number, low_bytes, number_at, stored_at}
 use Rattle.pulse_isa.proofs.ByteLaws.{number_at-there, stored_at-there, length-stored}
-use Rattle.pulse_isa.specs.Step.{Window, State, End, After, On, Ends, Goes, Stuck, given, reading, with_reg, with_regs, permitted, divisible, put, put_pad, put_bytes, jump_if, is_inside, step}
+use Rattle.pulse_isa.specs.Step.{Window, State, End, After, On, Ends, Goes, Stuck, given, reading, with_reg, with_regs, permitted, divisible, put, put_quotient, put_pad, put_bytes, jump_if, is_inside, step}
 use Rattle.code_verify.specs.declared.bad.Sizes.{Sizes}
 use Rattle.code_verify.specs.Run.{follow, run, start}
 use Rattle.code_verify.specs.Rules.{is_load, window_of, Verified}
@@ -105,10 +105,13 @@ fine_unary g h a b s r a_in b_in next = fine_reg g s b (λ x. put a (h x) s) r.s
 fine_binary : (g : Setting) (h : ℕ → ℕ → ℕ) (a b c : ℕ) (s : State) → Ready g s → FitsThree a b c g.len s.place → IsFine g s.place (with_regs s b c (λ x y. put a (h x y) s))
 fine_binary g h a b c s r f = fine_pair g s b c (λ x y. put a (h x y) s) r.shape.regs f.b_in f.c_in (λ x y. fine_put g a (h x y) s r f.a_in f.next)
 
-fine_division : (g : Setting) (h : ℕ → ℕ → ℕ) (a b c : ℕ) (s : State) → Ready g s → FitsThree a b c g.len s.place → IsFine g s.place (with_regs s b c (λ x y. divisible y (put a (h x y) s)))
+fine_division : (g : Setting) (h : ℕ → ℕ → ℕ) (a b c : ℕ) (s : State) → Ready g s → FitsThree a b c g.len s.place → IsFine g s.place (with_regs s b c (λ x y. put_quotient a y (h x y) s))
 fine_division g h a b c s r f =
-    fine_pair g s b c (λ x y. divisible y (put a (h x y) s)) r.shape.regs f.b_in f.c_in
-    (λ x y. fine_divisible g s.place y (put a (h x y) s) (fine_put g a (h x y) s r f.a_in f.next))
+    let long : length s.regs ≡ 16 = r.shape.regs in
+    let a_in : a < 16 = f.a_in in
+    let there : a < length s.regs = omega (arith, long, a_in) in
+    fine_pair g s b c (λ x y. put_quotient a y (h x y) s) r.shape.regs f.b_in f.c_in
+    (λ x y. fine_given g s.place (nat_lt a (length s.regs)) (divisible y (put a (h x y) s)) (lt-ltb a (length s.regs) there) (fine_divisible g s.place y (put a (h x y) s) (fine_put g a (h x y) s r f.a_in f.next)))
 
 fine_branch : (g : Setting) (test : ℕ → ℕ → Bool) (a b to : ℕ) (s : State) → Ready g s → FitsTwo a b g.len s.place → s.place < to → to < g.len → IsFine g s.place (with_regs s a b (λ x y. jump_if (test x y) to s))
 fine_branch g test a b to s r f above below =

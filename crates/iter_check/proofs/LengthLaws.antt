@@ -1,18 +1,18 @@
 -- Statements keep how long the record and the pad are.
-use Rattle.std.proofs.Common.{◌≡◌, ℕ, zero, suc, ◌+◌, ◌-◌, ◌/◌, ◌≤◌, Bool, true, false, List, [], ◌++◌, Option, Some, None, length, take, drop, nat_le, nat_lt, if◌then◌else◌, refl, ap, ◌∙◌, arith, length-append, length-take, length-drop}
+use Rattle.std.proofs.Common.{◌≡◌, ℕ, zero, suc, ◌+◌, ◌-◌, ◌/◌, ◌≤◌, Bool, true, false, List, [], ◌++◌, Option, Some, None, length, take, drop, nat_le, nat_lt, if◌then◌else◌, refl, ap, ◌∙◌, replicate, arith, length-append, length-take, length-drop, length-replicate}
 use Rattle.iter_syntax.specs.declared.tree.Word.{Word}
 use Rattle.iter_syntax.specs.declared.tree.Iter.{Iter}
 use Rattle.iter_syntax.specs.declared.tree.FieldDecl.{FieldDecl}
 use Rattle.iter_syntax.specs.Tree.{Sts, block}
 use Rattle.iter_syntax.specs.Tree as t
 use Rattle.iter_syntax.specs.declared.tree.Width.{Width}
-use Rattle.iter_check.specs.Layout.{Slot, width_bytes, find_field, text}
+use Rattle.iter_check.specs.Layout.{Slot, width_bytes, size_of, find_field, text}
 use Rattle.iter_check.specs.FieldValue.{bytes_of, item_at, write_at, write_item}
 use Rattle.iter_check.specs.State.{Setting, State}
 use Rattle.iter_check.specs.Value.{word, value_of}
 use Rattle.iter_check.specs.Meaning.{Outcome, Falls, Done, Goes, Fault, declare, assign, store_pad, store_record, given, if_writable, then_do, within, pick, turns, meaning}
-use Rattle.iter_check.specs.Laws.{Leaves}
-use Rattle.iter_check.specs.Iteration.{iterated, iteration, end_then_next}
+use Rattle.iter_check.specs.Laws.{Leaves, LeavesPad, PadLaw}
+use Rattle.iter_check.specs.Iteration.{iterated, iteration, end_then_next, begun, with_arguments}
 
 pub length-bytes_of : (w v : ℕ) → length (bytes_of w v) ≡ w
 length-bytes_of zero v = refl
@@ -108,3 +108,15 @@ iteration_leaves fields it bytes cur pad writable =
     iterated_leaves (length bytes) (length pad) (end_then_next g it s)
     (then_keeps (length bytes) (length pad) (meaning g (block it.end_part) s) _ (meaning_keeps g (block it.end_part) (length bytes) (length pad) s refl refl)
     (λ after a b. meaning_keeps g (block it.next_part) (length bytes) (length pad) (record after { names = [] }) a b))
+
+begun_leaves : (m : ℕ) (o : Outcome) → Keeps 0 m o → LeavesPad m (begun o)
+begun_leaves m (Falls s) h = h.1
+begun_leaves m (Done s) h = h.1
+begun_leaves m (Goes p s) h = h.1
+begun_leaves m (Fault k) h = tt
+
+pub begin_leaves : PadLaw
+begin_leaves it values =
+    let g : Setting = record { record_fields = []; pad_fields = it.pad; cur = 0; writable = true } in
+    let s : State = record { record_bytes = []; pad = replicate (size_of it.pad) 0; names = with_arguments it.args values [] } in
+    begun_leaves (size_of it.pad) (meaning g (block it.init_part) s) (meaning_keeps g (block it.init_part) 0 (size_of it.pad) s refl (length-replicate (size_of it.pad) 0))

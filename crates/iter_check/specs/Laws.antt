@@ -2,9 +2,9 @@
 use Rattle.std.specs.Prelude.{◌≡◌, ℕ, ◌+◌, ◌<◌, ◌≤◌, Bool, List, length, take, drop, Some}
 use Rattle.iter_syntax.specs.declared.tree.FieldDecl.{FieldDecl}
 use Rattle.iter_syntax.specs.declared.tree.Iter.{Iter}
-use Rattle.iter_check.specs.Layout.{Slot, width_bytes}
+use Rattle.iter_check.specs.Layout.{Slot, width_bytes, size_of}
 use Rattle.iter_check.specs.FieldValue.{bytes_of, item_at, write_item}
-use Rattle.iter_check.specs.Iteration.{Iterated, Done, Goes, Fault, iteration}
+use Rattle.iter_check.specs.Iteration.{Iterated, Done, Goes, Fault, iteration, Begun, Ready, Ended, DivZero, begin}
 
 -- the bytes at an offset are those of a value, and all others are as they were
 pub record StoresAlone (before after : List ℕ) (offset width v : ℕ) : Type 0 where
@@ -31,3 +31,13 @@ abbrev pub LengthLaw : Type 0
 LengthLaw =
     (fields : List FieldDecl) (it : Iter) (bytes : List ℕ) (cur : ℕ) (pad : List ℕ) (writable : Bool)
     → Leaves (length bytes) (length pad) (iteration fields it bytes cur pad writable)
+
+-- init leaves a pad of `m` bytes; a division by zero leaves none
+abbrev pub LeavesPad : ℕ → Begun → Type 0
+LeavesPad m (Ready cur pad) = length pad ≡ m
+LeavesPad m (Ended pad) = length pad ≡ m
+LeavesPad m DivZero = Unit {0}
+
+-- the pad of a walk has as many bytes as the iterator's pad
+abbrev pub PadLaw : Type 0
+PadLaw = (it : Iter) (values : List ℕ) → LeavesPad (size_of it.pad) (begin it values)

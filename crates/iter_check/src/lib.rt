@@ -29,7 +29,9 @@ pub use fields::{
     write_item,
 };
 pub use kind::{CheckError, CheckKind, Fault};
-pub use laws::{law_iteration_keeps_lengths, law_store_touches_only_its_element};
+pub use laws::{
+    law_iteration_keeps_lengths, law_store_touches_only_its_element, law_walk_has_its_pad,
+};
 pub use names::Names;
 pub use sort::{Part, Sort};
 pub use value::{Value, apply, binary, decided, flipped, moved, negated, word};

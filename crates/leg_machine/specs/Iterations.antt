@@ -1,6 +1,7 @@
 -- What an iteration and the beginning of a walk answer.
 use Rattle.std.specs.Prelude.{◌≡◌, ℕ, List, length}
-use Rattle.pulse_isa.specs.Step.{End, Faults, NotWritable, DivZero}
+use Rattle.pulse_base.specs.declared.answer.Cause.TheVariants.{NotWritable, DivZero}
+use Rattle.pulse_isa.specs.Step.{End, Faults}
 use Rattle.pulse_isa.specs.Step as m
 use Rattle.leg_machine.specs.declared.context.Context.{Context}
 use Rattle.leg_machine.specs.declared.context.Ended.{Ended}

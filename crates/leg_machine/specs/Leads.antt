@@ -2,7 +2,8 @@
 use Rattle.std.specs.Prelude.{◌≡◌, ℕ, ◌<◌, Bool, true, false, List}
 use Rattle.pulse_isa.specs.declared.instr.Instr.{Instr}
 use Rattle.pulse_isa.specs.declared.instr.Instr.TheVariants.{PutW}
-use Rattle.pulse_isa.specs.Step.{State, On, Ends, Faults, NotWritable, DivZero, step}
+use Rattle.pulse_base.specs.declared.answer.Cause.TheVariants.{NotWritable, DivZero}
+use Rattle.pulse_isa.specs.Step.{State, On, Ends, Faults, step}
 use Rattle.pulse_isa.specs.Step as m
 use Rattle.code_verify.specs.Rules.{window_of}
 use Rattle.leg_machine.specs.declared.step.Stores.{Stores}

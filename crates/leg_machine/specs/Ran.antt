@@ -1,7 +1,8 @@
 -- How a run of the machine ends.
 use Rattle.std.specs.Prelude.{◌≡◌, ℕ, ◌<◌, Bool, true, List, length, drop, Some, slice_get}
 use Rattle.pulse_isa.specs.declared.instr.Instr.{Instr}
-use Rattle.pulse_isa.specs.Step.{State, End, Faults, NotWritable, DivZero}
+use Rattle.pulse_base.specs.declared.answer.Cause.TheVariants.{NotWritable, DivZero}
+use Rattle.pulse_isa.specs.Step.{State, End, Faults}
 use Rattle.pulse_isa.specs.Step as m
 use Rattle.code_verify.specs.Rules.{window_of, Verified}
 use Rattle.code_verify.specs.Fits.{Fits}

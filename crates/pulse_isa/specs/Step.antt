@@ -1,6 +1,8 @@
 -- What one instruction does: from the state before it to the state after it, or to the end of the run.
 -- Where a register, a byte of the window or of the pad, or a width is lacking, the run is stuck.
 use Rattle.std.specs.Prelude.{ℕ, zero, suc, ◌+◌, ◌-◌, ◌*◌, ◌/◌, ◌%◌, ◌^◌, Bool, true, false, ◌&&◌, nat_eq, nat_lt, nat_le, not, List, length, Option, Some, None, slice_get, slice_set, bit_and, bit_or, bit_xor}
+use Rattle.pulse_base.specs.declared.answer.Cause.{Cause}
+use Rattle.pulse_base.specs.declared.answer.Cause.TheVariants.{NotWritable, DivZero}
 use Rattle.pulse_isa.specs.declared.instr.Instr.{Instr}
 use Rattle.pulse_isa.specs.declared.instr.Instr.TheVariants.{Load, GetW, PutW, GetP, PutP, GetC, SetL, SetH, Mov, Add, Sub, Mul, Div, Mod, And, Or, Xor, Not, Shl, Shr, Jmp, Jeq, Jne, Jlt, Jle, Return, NextIter}
 use Rattle.pulse_isa.specs.Bytes.{is_width, number_at, stored_at}
@@ -19,10 +21,6 @@ pub record State : Type 0 where
   pub pad : List ℕ
   pub cur : ℕ
   pub writable : Bool
-
-pub data Cause : Type 0 where
-  NotWritable : Cause
-  DivZero : Cause
 
 -- how a run ends, with the record and the pad that it leaves: a fault leaves none
 pub data End : Type 0 where
@@ -65,6 +63,10 @@ divisible (suc y) after = after
 abbrev pub put : ℕ → ℕ → State → After
 put a v s = given (nat_lt a (length s.regs)) (On (record s { place = s.place + 1; regs = slice_set s.regs a v }))
 
+-- the same, of a quotient or a remainder by y
+abbrev pub put_quotient : ℕ → ℕ → ℕ → State → After
+put_quotient a y v s = given (nat_lt a (length s.regs)) (divisible y (put a v s))
+
 abbrev pub put_pad : List ℕ → State → After
 put_pad pad s = On (record s { place = s.place + 1; pad = pad })
 
@@ -94,8 +96,8 @@ step (Mov a b) s = with_reg s b (λ x. put a x s)
 step (Add a b c) s = with_regs s b c (λ x y. put a ((x + y) % 2 ^ 64) s)
 step (Sub a b c) s = with_regs s b c (λ x y. put a ((x + (2 ^ 64 - y)) % 2 ^ 64) s)
 step (Mul a b c) s = with_regs s b c (λ x y. put a ((x * y) % 2 ^ 64) s)
-step (Div a b c) s = with_regs s b c (λ x y. divisible y (put a (x / y) s))
-step (Mod a b c) s = with_regs s b c (λ x y. divisible y (put a (x % y) s))
+step (Div a b c) s = with_regs s b c (λ x y. put_quotient a y (x / y) s)
+step (Mod a b c) s = with_regs s b c (λ x y. put_quotient a y (x % y) s)
 step (And a b c) s = with_regs s b c (λ x y. put a (bit_and x y) s)
 step (Or a b c) s = with_regs s b c (λ x y. put a (bit_or x y) s)
 step (Xor a b c) s = with_regs s b c (λ x y. put a (bit_xor x y) s)
