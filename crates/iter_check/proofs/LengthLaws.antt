@@ -1,5 +1,6 @@
 -- Statements keep how long the record and the pad are.
-use Rattle.std.proofs.Common.{◌≡◌, ℕ, zero, suc, ◌+◌, ◌-◌, ◌/◌, ◌≤◌, Bool, true, false, List, [], ◌++◌, Option, Some, None, length, take, drop, nat_le, nat_lt, if◌then◌else◌, refl, ap, ◌∙◌, replicate, arith, length-append, length-take, length-drop, length-replicate}
+use Rattle.std.proofs.Common.{◌≡◌, ℕ, zero, suc, ◌+◌, ◌-◌, ◌/◌, ◌≤◌, Bool, true, false, List, [], ◌++◌, Option, Some, None, length, take, drop, nat_le, nat_lt, if◌then◌else◌, refl, ap, ◌∙◌, replicate, arith, length-append, length-take, length-drop}
+use Rattle.std.proofs.lemmas.List.{length-replicate}
 use Rattle.iter_syntax.specs.declared.tree.Word.{Word}
 use Rattle.iter_syntax.specs.declared.tree.Iter.{Iter}
 use Rattle.iter_syntax.specs.declared.tree.FieldDecl.{FieldDecl}
