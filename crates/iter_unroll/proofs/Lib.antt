@@ -1,1 +1,3 @@
+pub mod accepted
+pub mod counts
 pub mod meaning

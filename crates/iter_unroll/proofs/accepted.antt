@@ -1,0 +1,6 @@
+pub mod Options
+pub mod Faults
+pub mod Scopes
+pub mod Indices
+pub mod Fields
+pub mod Expressions
