@@ -4,3 +4,5 @@ pub mod Scopes
 pub mod Indices
 pub mod Fields
 pub mod Expressions
+pub mod Statements
+pub mod Programs
