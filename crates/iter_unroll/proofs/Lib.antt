@@ -1,3 +1,4 @@
 pub mod accepted
 pub mod counts
 pub mod meaning
+pub mod unrolling

@@ -3,4 +3,5 @@ pub mod Tree
 pub mod Limits
 pub mod Uses
 pub mod Span
+pub mod Unrolled
 pub mod unrolling

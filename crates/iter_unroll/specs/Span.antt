@@ -1,5 +1,5 @@
 -- The span of fields: the least interval of the record that holds their bytes.
-use Rattle.std.specs.Prelude.{◌≡◌, ℕ, ◌+◌, ◌≤◌, All, List, [], ◌∷◌}
+use Rattle.std.specs.Prelude.{◌≡◌, ℕ, ◌+◌, ◌≤◌, List, [], ◌∷◌, ⊤}
 use Rattle.iter_check.specs.Layout.{width_bytes}
 use Rattle.iter_unroll.specs.Uses.{Use}
 
@@ -8,7 +8,8 @@ abbrev pub Holds : ℕ × ℕ → Use → Type 0
 Holds i u = (i.0 ≤ u.0) × (u.0 + width_bytes u.1 ≤ i.0 + i.1)
 
 abbrev pub HoldsAll : ℕ × ℕ → List Use → Type 0
-HoldsAll i uses = All (Holds i) uses
+HoldsAll i [] = ⊤
+HoldsAll i (u ∷ uses) = Holds i u × HoldsAll i uses
 
 -- an interval lies inside another
 abbrev pub LiesIn : ℕ × ℕ → ℕ × ℕ → Type 0

@@ -2,3 +2,6 @@ pub mod Scope
 pub mod Flattened
 pub mod Tied
 pub mod Whole
+pub mod Views
+pub mod Steps
+pub mod Bounds

@@ -6,8 +6,17 @@
 //! No machine's instructions are known here.
 #![tactic(auto)]
 
+mod block;
+mod expr;
+mod field;
+mod index;
+mod refused;
 mod scope;
+mod stmt;
 mod tree;
 
-pub use scope::Meant;
+pub use block::unroll_block;
+pub use expr::Shape;
+pub use refused::Refused;
+pub use scope::{Entry, Meant, Scope};
 pub use tree::{Flat, FlatBlock, FlatExpr, FlatStmt, FlatUse};

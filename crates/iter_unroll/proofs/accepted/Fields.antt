@@ -35,7 +35,7 @@ placed_from o w (d ∷ fields) =
     subst (λ n. Placed (o + n) (declared_field (d ∷ fields) w) (find_from o (text w) (d ∷ fields))) (sym (sum_by-cons field_size d fields))
     (found (bytes_eq (text d.name) (text w)) o d fields (declared_field fields w) (find_from (o + field_size d) (text w) fields) (placed_from (o + field_size d) w fields))
 
-placed : (w : Word) (fields : List FieldDecl) → Placed (size_of fields) (declared_field fields w) (find_field fields (text w))
+pub placed : (w : Word) (fields : List FieldDecl) → Placed (size_of fields) (declared_field fields w) (find_field fields (text w))
 placed w fields = subst (λ n. Placed n (declared_field fields w) (find_field fields (text w))) (zero-add (size_of fields)) (placed_from 0 w fields)
 
 -- an element lies inside
