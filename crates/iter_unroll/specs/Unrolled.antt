@@ -25,7 +25,7 @@ abbrev pub Iterates : List FieldDecl → Iter → Flat → Type 0
 Iterates fields it flat =
     (record_bytes : List ℕ) (cur : ℕ) (pad : List ℕ) (writable : Bool)
     → flat_iteration (record { args = []; cur = cur; writable = writable }) (fsts flat.end_part) (fsts flat.next_part) record_bytes pad
-      ≡ iteration fields it record_bytes cur pad writable
+    ≡ iteration fields it record_bytes cur pad writable
 
 -- a walk begins by straight code as by the text
 abbrev pub Begins : List FieldDecl → Iter → Flat → Type 0

@@ -7,6 +7,7 @@
 #![tactic(auto)]
 
 mod block;
+mod bounds;
 mod expr;
 mod field;
 mod index;
@@ -14,9 +15,8 @@ mod refused;
 mod scope;
 mod stmt;
 mod tree;
+mod whole;
 
-pub use block::unroll_block;
-pub use expr::Shape;
-pub use refused::Refused;
-pub use scope::{Entry, Meant, Scope};
+pub use bounds::span;
 pub use tree::{Flat, FlatBlock, FlatExpr, FlatStmt, FlatUse};
+pub use whole::unroll;

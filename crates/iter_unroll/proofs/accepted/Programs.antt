@@ -65,6 +65,7 @@ each_nil f (y ∷ xs) zero x e h = same (first_nil (f y) _ e) (some_is h)
   where
     some_is : {B : Type 0} {a b : B} → Some a ≡ Some b → a ≡ b
     some_is e = cc
+
     same : f y ≡ [] → y ≡ x → f x ≡ []
     same e h = subst (λ z. f z ≡ []) h e
 each_nil f (y ∷ xs) (suc i) x e h = each_nil f xs i x (last_nil (f y) _ e) h
@@ -77,12 +78,14 @@ no_zero d e = times_one (elements d) (width_bytes d.width) (some_length d.len e)
     some_length None e = omega arith
     some_length (Some zero) e = cc
     some_length (Some (suc n)) e = omega arith
+
     some_width : (w : Width) → 1 ≤ width_bytes w
     some_width width.U8 = omega arith
     some_width width.U16 = omega arith
     some_width width.U32 = omega arith
     some_width width.U64 = omega arith
     some_width width.Ptr = omega arith
+
     times_one : (a b : ℕ) → 1 ≤ a → 1 ≤ b → 1 ≤ a * b
     times_one (suc a) (suc b) h q = omega arith
     times_one zero b h q = absurd (omega (arith, h))

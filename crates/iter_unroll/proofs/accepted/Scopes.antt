@@ -148,7 +148,7 @@ know_turn r scope loops turn n env w first past i fresh low high k =
       names = names_more r scope env w (Some s.Int) false (m.Number i) fresh (refl, refl) k.names;
       lets_are = lets_same scope w (Some s.Int) n k.lets_are;
       numbers = λ v. number_more (text v) loops turn (loop_of w first past) i k.turns
-        ∙ number_case (bytes_eq (text w) (text v)) i (number_in (text v) loops turn) (lookup (text v) env) (λ e. unbound r (bound scope v) (lookup (text v) env) (same_bound scope w v e ∙ fresh) (k.names v)) (k.numbers v);
+          ∙ number_case (bytes_eq (text w) (text v)) i (number_in (text v) loops turn) (lookup (text v) env) (λ e. unbound r (bound scope v) (lookup (text v) env) (same_bound scope w v e ∙ fresh) (k.names v)) (k.numbers v);
       turns = turn_more loops turn (loop_of w first past) i low high k.turns;
     }
 

@@ -20,7 +20,7 @@ env_cut es n =
     let older = env_of (take n es) in
     let newer = env_of (drop n es) in
     let all : env_of es ≡ newer ++ older =
-        ap env_of (sym (take-append-drop n es)) ∙ ap (map entry_of) (reverse-append (take n es) (drop n es)) ∙ map-append entry_of (reverse (drop n es)) (reverse (take n es)) in
+    ap env_of (sym (take-append-drop n es)) ∙ ap (map entry_of) (reverse-append (take n es) (drop n es)) ∙ map-append entry_of (reverse (drop n es)) (reverse (take n es)) in
     let len : length es - n ≡ length newer = sym (length-map (reverse (drop n es)) entry_of ∙ length-reverse (drop n es) ∙ length-drop n es) in
     sym (ap (λ l. drop (length es - n) l) all ∙ ap (λ k. drop k (newer ++ older)) len ∙ drop_over newer older)
 

@@ -1,7 +1,7 @@
 -- The bounds of the fields so far: where the first begins, and where the last is past.
 use Rattle.std.specs.Prelude.{ℕ, ◌+◌, min, max, Option, Some, None, option_map}
 use Rattle.iter_check.specs.Layout.{width_bytes}
-use Rattle.iter_unroll.specs.declared.span.Bounds.{Bounds}
+use Rattle.iter_unroll.specs.declared.bounds.Bounds.{Bounds}
 use Rattle.iter_unroll.specs.Flat.{Fx, Fs}
 use Rattle.iter_unroll.specs.Flat as f
 use Rattle.iter_unroll.specs.Uses.{Use}

@@ -1,5 +1,5 @@
 -- Whole iterations, and starts of walks.
-use Rattle.std.specs.Prelude.{◌≡◌, ℕ, ◌+◌, List, [], ◌∷◌, length, Some}
+use Rattle.std.specs.Prelude.{◌≡◌, ℕ, ◌+◌, List, [], ◌∷◌, length, Option, Some, None, ⊤}
 use Rattle.iter_syntax.specs.declared.tree.FieldDecl.{FieldDecl}
 use Rattle.iter_syntax.specs.declared.tree.Arg.{Arg}
 use Rattle.iter_syntax.specs.declared.tree.Iter.{Iter}
@@ -10,6 +10,7 @@ use Rattle.iter_unroll.specs.declared.scope.Meant.TheVariants as m
 use Rattle.iter_unroll.specs.Flat.{Fs, Fixed, flat_iteration, flat_begin}
 use Rattle.iter_unroll.specs.unrolling.Scope.{Env, Shape}
 use Rattle.iter_unroll.specs.unrolling.Flattened.{flat_of}
+use Rattle.iter_unroll.specs.unrolling.Tied.{Never}
 
 -- the arguments, numbered from `k` on
 abbrev pub arguments : ℕ → List Arg → Env → Env
@@ -18,6 +19,11 @@ arguments k (a ∷ args) env = arguments (k + 1) args ((text a.name, m.Argument 
 
 abbrev pub shape : List FieldDecl → Iter → Shape
 shape fields it = record { record_fields = fields; pad_fields = it.pad }
+
+-- there is straight code
+abbrev pub IsThere : Option Fs → Type 0
+IsThere None = Never
+IsThere (Some b) = ⊤
 
 abbrev pub IterationLaw : Type 0
 IterationLaw =

@@ -3,7 +3,7 @@ use Rattle.iter_unroll.specs.Flat.{end}
 use Rattle.iter_unroll.specs.Tree.{fst, fsts}
 use Rattle.iter_unroll.specs.Limits.{fs_nodes}
 use Rattle.iter_unroll.specs.unrolling.Bounds.{bounds_of, wider_fs}
-use Rattle.iter_unroll.proofs.span.+span.Given as goal
+use Rattle.iter_unroll.proofs.bounds.+span.Given as goal
 
 pub record Row (a : Type 0) (b : Type 0) : Type 0 where
   pub same : a
@@ -12,7 +12,7 @@ pub record Row (a : Type 0) (b : Type 0) : Type 0 where
 abbrev pub invariant-wider_row-row : goal.invariant-wider_row-row
 invariant-wider_row-row l =
     Row
-    (wider_fs (bounds_of l.bounds) (fsts l.stmts) ≡ wider_fs (bounds_of l.all) (fsts (drop l.s-index l.stmts)))
+    (wider_fs (bounds_of l.fn.bounds) (fsts l.stmts) ≡ wider_fs (bounds_of l.all) (fsts (drop l.s-index l.stmts)))
     (fs_nodes (fsts (drop l.s-index l.stmts)) ≤ fs_nodes (fsts l.stmts))
 
 abbrev pub decreases-wider_stmt : goal.decreases-wider_stmt
