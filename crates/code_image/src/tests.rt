@@ -2,7 +2,11 @@
 
 ghost use Rattle.std.specs.Prelude.{◌≡◌, IfOk};
 
+use crate::decoding::decode;
+use crate::encoding::encode;
+use crate::fault::ImageFault;
 use crate::image::{Code, Image};
+use crate::lister::listing;
 use code_verify::{Sizes, verify};
 use pulse_base::Memory;
 use pulse_isa::Instr;
@@ -61,5 +65,27 @@ fn holds_its_parts(rt: HostRuntime) -> Result<(), Fail> {
     assert_eq!(rt; (image.record_size, image.pad_size, image.args), (24, 8, 1));
     assert_eq!(rt; image.init_code.as_slice(), init.as_slice());
     assert_eq!(rt; image.body_code.as_slice(), body.as_slice());
+    Ok(())
+}
+
+const BYTES: [u8; 86] = [
+    0x50, 0x4c, 0x49, 0x4d, 1, 1, 24, 0, 8, 0, 3, 0, 6, 0, //
+    1, 0, 0, 0, 0, 0, 8, 0, 2, 8, 8, 0, 0, 0, 0, 0, 0x31, 8, 0, 0, 0, 0, 0, 0, //
+    1, 0, 0, 0, 16, 0, 8, 0, 2, 8, 8, 0, 16, 0, 0, 0, 7, 9, 0, 0, 0, 0, 0, 0, //
+    0x22, 8, 9, 0, 5, 0, 0, 0, 0x30, 0, 0, 0, 0, 0, 0, 0, 0x31, 8, 0, 0, 0, 0, 0, 0,
+];
+
+const LISTING: &str =
+    "image args 1 record 24 pad 8\ninit 3\n0 LOAD 0 8\n1 GETW r8 8 0\n2 NEXT_ITER r8\nbody 6\n0 LOAD 16 8\n1 GETW r8 8 16\n2 SETL r9 0\n3 JNE r8 r9 5\n4 RETURN\n5 NEXT_ITER r8\n";
+
+#[test]
+fn reads_writes_and_lists(rt: HostRuntime) -> Result<(), Fail> {
+    let alloc = rt.alloc();
+    let image = decode(alloc, &BYTES)?;
+    assert_eq!(rt; encode(alloc, &image)?.as_slice(), BYTES.as_slice());
+    assert_eq!(rt; listing(alloc, &image)?.as_slice(), LISTING.as_bytes());
+    for len in 0..BYTES.len() {
+        assert!(rt; matches!(decode(alloc, &BYTES[..len]), Err(ImageFault::Short)));
+    }
     Ok(())
 }

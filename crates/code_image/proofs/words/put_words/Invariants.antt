@@ -1,0 +1,6 @@
+use Rattle.std.proofs.Common.{◌≡◌, ◌++◌, drop}
+use Rattle.code_image.specs.Spelling.{words}
+use Rattle.code_image.proofs.words.put_words.Given as goal
+
+abbrev pub invariant-words : goal.invariant-words
+invariant-words l = l.fn.bytes ++ words l.code ≡ l.bytes ++ words (drop l.i-index l.code)
