@@ -1,4 +1,5 @@
 -- Laws of the grammar: its parser is exact, and a text stops being a beginning of a program at one place.
+pub mod Splits
 pub mod Exact
 pub mod ExactMany
 pub mod ExactChoice
@@ -10,7 +11,5 @@ pub mod Stops
 pub mod Deeper
 pub mod Whole
 pub mod Turns
-pub mod Opens
-pub mod OpensForms
 pub mod OneStop
 pub mod OneProgram

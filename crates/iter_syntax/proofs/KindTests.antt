@@ -1,6 +1,6 @@
 -- What a token that passes a test is.
 use Rattle.std.specs.Prelude.{slice_get}
-use Rattle.std.proofs.Common.{◌≡◌, ℕ, Bool, true, false, ◌&&◌, nat_eq, List, [], ◌∷◌, Some, refl, sym, ap, ◌∙◌, arith}
+use Rattle.std.proofs.Common.{◌≡◌, ℕ, Bool, true, false, ◌&&◌, nat_eq, List, [], ◌∷◌, Option, Some, None, refl, sym, ap, ◌∙◌, arith}
 use Rattle.iter_syntax.specs.declared.tree.Place.{Place}
 use Rattle.iter_syntax.specs.declared.tree.BinaryOp.{BinaryOp}
 use Rattle.iter_syntax.specs.declared.tree.BinaryOp.TheVariants as B
@@ -10,9 +10,11 @@ use Rattle.iter_syntax.specs.declared.token.Keyword.{Keyword}
 use Rattle.iter_syntax.specs.declared.token.Symbol.{Symbol}
 use Rattle.iter_syntax.specs.declared.token.Symbol.TheVariants as S
 use Rattle.iter_syntax.specs.Deep.{depth_after}
-use Rattle.iter_syntax.specs.Kinds.{keyword_number, symbol_number, kind_is_keyword, kind_is_symbol, kind_is_name, kind_is_number, kind_is_next, is_next_text, symbol_operator, kind_operator, has_level}
+use Rattle.iter_syntax.specs.Kinds.{keyword_number, symbol_number, kind_is_keyword, kind_is_symbol, kind_is_name, kind_is_number, kind_is_next, is_next_text, kind_operator, has_level}
+use Rattle.iter_syntax.specs.Operators.{symbol_operator}
 use Rattle.iter_syntax.specs.Productions.{kind_word, kind_number, found_operator}
-use Rattle.iter_syntax.specs.Printed.{key, sym as symbol_kind, word, next_word, level_of_operator, symbol_of_operator}
+use Rattle.iter_syntax.specs.Printed.{key, sym as symbol_kind, word, next_word}
+use Rattle.iter_syntax.specs.Operators.{level_of_operator, symbol_of_operator}
 use Rattle.iter_syntax.proofs.EachKind.{keywords, symbols, keyword_is, symbol_is}
 
 same_number : (m n : ℕ) → nat_eq m n ≡ true → m ≡ n
@@ -83,33 +85,24 @@ next_kind (K.Symbol s) h = absurd (cc)
 abbrev IsOperator : ℕ → TokenKind → BinaryOp → Type 0
 IsOperator level k op = (k ≡ symbol_kind (symbol_of_operator op)) × (level_of_operator op ≡ level)
 
-operator_symbol : (n : ℕ) (s : Symbol) → has_level n (symbol_operator s) ≡ true → IsOperator n (symbol_kind s) (found_operator (symbol_operator s))
-operator_symbol n S.Star h = (refl, same_number _ _ h)
-operator_symbol n S.Slash h = (refl, same_number _ _ h)
-operator_symbol n S.Percent h = (refl, same_number _ _ h)
-operator_symbol n S.Plus h = (refl, same_number _ _ h)
-operator_symbol n S.Minus h = (refl, same_number _ _ h)
-operator_symbol n S.ShiftLeft h = (refl, same_number _ _ h)
-operator_symbol n S.ShiftRight h = (refl, same_number _ _ h)
-operator_symbol n S.And h = (refl, same_number _ _ h)
-operator_symbol n S.Or h = (refl, same_number _ _ h)
-operator_symbol n S.Caret h = (refl, same_number _ _ h)
-operator_symbol n S.EqualEqual h = (refl, same_number _ _ h)
-operator_symbol n S.NotEqual h = (refl, same_number _ _ h)
-operator_symbol n S.Less h = (refl, same_number _ _ h)
-operator_symbol n S.LessEqual h = (refl, same_number _ _ h)
-operator_symbol n S.Greater h = (refl, same_number _ _ h)
-operator_symbol n S.GreaterEqual h = (refl, same_number _ _ h)
-operator_symbol n S.AndAnd h = (refl, same_number _ _ h)
-operator_symbol n S.OrOr h = (refl, same_number _ _ h)
-operator_symbol n s h = absurd (cc)
+abbrev is_its : Symbol → Option BinaryOp → Bool
+is_its s (Some op) = nat_eq (symbol_number s) (symbol_number (symbol_of_operator op))
+is_its s None = true
+
+its_symbol : (s : Symbol) → is_its s (symbol_operator s) ≡ true
+its_symbol S.Range = refl
+its_symbol s = refl
 
 -- an operator of a level is that operator's symbol
 pub operator_kind : (n : ℕ) (k : TokenKind) → has_level n (kind_operator k) ≡ true → IsOperator n k (found_operator (kind_operator k))
 operator_kind n (K.Name w) h = absurd (cc)
 operator_kind n (K.Keyword k) h = absurd (cc)
 operator_kind n (K.Number m) h = absurd (cc)
-operator_kind n (K.Symbol s) h = operator_symbol n s h
+operator_kind n (K.Symbol s) h = by_found (symbol_operator s) (its_symbol s) h
+  where
+    by_found : (o : Option BinaryOp) → is_its s o ≡ true → has_level n o ≡ true → IsOperator n (symbol_kind s) (found_operator o)
+    by_found (Some op) is l = (ap (λ r. symbol_kind r) (same_symbol s (symbol_of_operator op) is), same_number _ _ l)
+    by_found None is l = absurd (cc)
 
 -- no operator is a bracket
 pub operator_flat : (op : BinaryOp) (n : ℕ) → depth_after n (symbol_kind (symbol_of_operator op)) ≡ n

@@ -16,9 +16,10 @@ use Rattle.iter_syntax.specs.declared.tree.Program.{Program}
 use Rattle.iter_syntax.specs.Productions.{Decl, a_record, an_iter}
 use Rattle.iter_syntax.specs.Tree as t
 use Rattle.iter_syntax.specs.Tree.{Ex, Sts, sts, st, block}
+use Rattle.iter_syntax.specs.Operators.{level_of_operator, symbol_of_operator}
 use Rattle.iter_syntax.specs.Printed as P
 use Rattle.iter_syntax.specs.Printed.{Kinds}
-use Rattle.iter_syntax.specs.Printing.{add, within, add_expr, add_use, add_value, add_range, add_stmts, add_block, add_type, add_field, add_each, add_fields, add_record, add_arg, add_more, add_args, add_iter, add_decl}
+use Rattle.iter_syntax.specs.Steps.Printing.{add, within, add_expr, add_use, add_value, add_range, add_stmts, add_block, add_type, add_field, add_each, add_fields, add_record, add_arg, add_more, add_args, add_iter, add_decl}
 
 -- tokens one after the other
 abbrev pub add_all : Kinds → List ℕ → List ℕ
@@ -57,10 +58,10 @@ expr_is (t.pad_item p w i) text = between_is (P.sym S.OpenSquare) (P.sym S.Close
 expr_is (t.not p e) text = within_is (nat_lt 0 (P.level_of e)) (P.expr_kinds e) (add_expr e) (expr_is e) (add (P.sym S.Bang) text)
 expr_is (t.flip p e) text = within_is (nat_lt 0 (P.level_of e)) (P.expr_kinds e) (add_expr e) (expr_is e) (add (P.sym S.Tilde) text)
 expr_is (t.bin p op a b) text =
-    let l = P.level_of_operator op in
+    let l = level_of_operator op in
     let left = P.in_parentheses (P.left_level l) (P.level_of a) (P.expr_kinds a) in
     let right = P.in_parentheses (P.right_level l) (P.level_of b) (P.expr_kinds b) in
-    let sign = P.sym (P.symbol_of_operator op) in
+    let sign = P.sym (symbol_of_operator op) in
     within_is (nat_lt (P.right_level l) (P.level_of b)) (P.expr_kinds b) (add_expr b) (expr_is b) _
     ∙ ap (λ x. add_all right (add sign x)) (within_is (nat_lt (P.left_level l) (P.level_of a)) (P.expr_kinds a) (add_expr a) (expr_is a) text)
     ∙ sym (all_append left (sign ∷ right) text)
@@ -155,9 +156,6 @@ fields_are fs text = braces_is (flat_map P.field_kinds fs) (add_each add_field f
 
 pub record_is : (r : RecordDecl) (text : List ℕ) → add_record r text ≡ add_all (P.record_kinds r) text
 record_is r text = fields_are r.fields (add (P.word r.name) (add (P.key W.Record) text))
-
-arg_is : (a : Arg) (text : List ℕ) → add_arg a text ≡ add_all (P.arg_kinds a) text
-arg_is a text = refl
 
 args_are : (xs : List Arg) (text : List ℕ) → add_args xs text ≡ add_all (P.args_kinds xs) text
 args_are [] text = refl

@@ -1,8 +1,6 @@
 -- The kinds of tokens that the grammar names.
 use Rattle.std.specs.Prelude.{ℕ, Bool, true, false, ◌&&◌, nat_eq, List, [], ◌∷◌, Option, Some, None}
-use Rattle.iter_syntax.specs.declared.tree.Place.{Place}
 use Rattle.iter_syntax.specs.declared.tree.BinaryOp.{BinaryOp}
-use Rattle.iter_syntax.specs.declared.tree.BinaryOp.TheVariants as B
 use Rattle.iter_syntax.specs.declared.token.Token.{Token}
 use Rattle.iter_syntax.specs.declared.token.TokenKind.{TokenKind}
 use Rattle.iter_syntax.specs.declared.token.TokenKind.TheVariants as K
@@ -10,6 +8,7 @@ use Rattle.iter_syntax.specs.declared.token.Keyword.{Keyword}
 use Rattle.iter_syntax.specs.declared.token.Keyword.TheVariants as W
 use Rattle.iter_syntax.specs.declared.token.Symbol.{Symbol}
 use Rattle.iter_syntax.specs.declared.token.Symbol.TheVariants as S
+use Rattle.iter_syntax.specs.Operators.{level_of_operator, symbol_operator}
 
 -- the place of a keyword in the list of keywords
 abbrev pub keyword_number : Keyword → ℕ
@@ -111,40 +110,14 @@ is_next t = kind_is_next t.kind
 abbrev pub is_number : Token → Bool
 is_number t = kind_is_number t.kind
 
--- the binary operators with their levels, from 1, the tightest, to 7
-abbrev pub symbol_operator : Symbol → Option (ℕ × BinaryOp)
-symbol_operator S.Star = Some (1, B.Mul)
-symbol_operator S.Slash = Some (1, B.Div)
-symbol_operator S.Percent = Some (1, B.Mod)
-symbol_operator S.Plus = Some (2, B.Add)
-symbol_operator S.Minus = Some (2, B.Sub)
-symbol_operator S.ShiftLeft = Some (3, B.Shl)
-symbol_operator S.ShiftRight = Some (3, B.Shr)
-symbol_operator S.And = Some (4, B.BitAnd)
-symbol_operator S.Or = Some (4, B.BitOr)
-symbol_operator S.Caret = Some (4, B.BitXor)
-symbol_operator S.EqualEqual = Some (5, B.Eq)
-symbol_operator S.NotEqual = Some (5, B.Ne)
-symbol_operator S.Less = Some (5, B.Lt)
-symbol_operator S.LessEqual = Some (5, B.Le)
-symbol_operator S.Greater = Some (5, B.Gt)
-symbol_operator S.GreaterEqual = Some (5, B.Ge)
-symbol_operator S.AndAnd = Some (6, B.And)
-symbol_operator S.OrOr = Some (7, B.Or)
-symbol_operator _ = None
-
-abbrev pub kind_operator : TokenKind → Option (ℕ × BinaryOp)
+abbrev pub kind_operator : TokenKind → Option BinaryOp
 kind_operator (K.Symbol s) = symbol_operator s
 kind_operator _ = None
 
-abbrev pub has_level : ℕ → Option (ℕ × BinaryOp) → Bool
-has_level level (Some x) = nat_eq x.0 level
+abbrev pub has_level : ℕ → Option BinaryOp → Bool
+has_level level (Some op) = nat_eq (level_of_operator op) level
 has_level level None = false
 
 -- a binary operator of a level
 abbrev pub is_operator : ℕ → Token → Bool
 is_operator level t = has_level level (kind_operator t.kind)
-
--- what tokens give: a place, a word, a number with its place, an operator with its place
-abbrev pub place_of : Token → Place
-place_of t = t.place

@@ -17,14 +17,6 @@ abbrev pub offset_of : ℕ → Option Token → ℕ
 offset_of end None = end
 offset_of end (Some t) = (t.place).0
 
--- what is answered of a token list, in a text that ends at `end`
-abbrev pub TokensParsed : ℕ → List Token → Result Program SyntaxFault → Type 0
-TokensParsed end ts (Ok p) = IsProgram ts p
-TokensParsed end ts (Err (F.Lex place)) = ⊥
-TokensParsed end ts (Err (F.Deep place)) = ⊥
-TokensParsed end ts (Err (F.Syntax place)) = (number : ℕ) × StopsAt ts number × (place ≡ offset_of end (slice_get ts number))
-TokensParsed end ts (Err F.Memory) = Unit {0}
-
 -- what is answered of a text: Lex goes before Deep, and Deep before Syntax
 abbrev pub ParseAnswer : List ℕ → Result Program SyntaxFault → Type 0
 ParseAnswer text (Ok p) = IsProgramOf text p

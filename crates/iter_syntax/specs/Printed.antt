@@ -10,8 +10,6 @@ use Rattle.iter_syntax.specs.declared.tree.Arg.{Arg}
 use Rattle.iter_syntax.specs.declared.tree.Block.{Block}
 use Rattle.iter_syntax.specs.declared.tree.Iter.{Iter}
 use Rattle.iter_syntax.specs.declared.tree.Program.{Program}
-use Rattle.iter_syntax.specs.declared.tree.BinaryOp.{BinaryOp}
-use Rattle.iter_syntax.specs.declared.tree.BinaryOp.TheVariants as B
 use Rattle.iter_syntax.specs.declared.token.TokenKind.{TokenKind}
 use Rattle.iter_syntax.specs.declared.token.TokenKind.TheVariants as K
 use Rattle.iter_syntax.specs.declared.token.Keyword.{Keyword}
@@ -20,6 +18,7 @@ use Rattle.iter_syntax.specs.declared.token.Symbol.{Symbol}
 use Rattle.iter_syntax.specs.declared.token.Symbol.TheVariants as S
 use Rattle.iter_syntax.specs.Tree.{Ex, num, null, name, cur, cur_field, cur_item, pad_field, pad_item, not, flip, bin, at, Sts, end, bind, set, set_pad, set_pad_item, set_cur, set_cur_item, when, choose, loop, done, go, block}
 use Rattle.iter_syntax.specs.Productions.{Decl, a_record, an_iter}
+use Rattle.iter_syntax.specs.Operators.{level_of_operator, symbol_of_operator}
 use Rattle.iter_syntax.specs.Spelling.{keyword_text, symbol_text}
 use Rattle.iter_syntax.specs.Deep.{ends_stretch}
 
@@ -39,47 +38,6 @@ abbrev pub between : Symbol → Kinds → Symbol → Kinds
 between first inside last = sym first ∷ inside ++ sym last ∷ []
 
 -- ---- expressions
-
--- the level of an operator, from 1, the tightest, to 7
-abbrev pub level_of_operator : BinaryOp → ℕ
-level_of_operator B.Mul = 1
-level_of_operator B.Div = 1
-level_of_operator B.Mod = 1
-level_of_operator B.Add = 2
-level_of_operator B.Sub = 2
-level_of_operator B.Shl = 3
-level_of_operator B.Shr = 3
-level_of_operator B.BitAnd = 4
-level_of_operator B.BitOr = 4
-level_of_operator B.BitXor = 4
-level_of_operator B.Eq = 5
-level_of_operator B.Ne = 5
-level_of_operator B.Lt = 5
-level_of_operator B.Le = 5
-level_of_operator B.Gt = 5
-level_of_operator B.Ge = 5
-level_of_operator B.And = 6
-level_of_operator B.Or = 7
-
-abbrev pub symbol_of_operator : BinaryOp → Symbol
-symbol_of_operator B.Mul = S.Star
-symbol_of_operator B.Div = S.Slash
-symbol_of_operator B.Mod = S.Percent
-symbol_of_operator B.Add = S.Plus
-symbol_of_operator B.Sub = S.Minus
-symbol_of_operator B.Shl = S.ShiftLeft
-symbol_of_operator B.Shr = S.ShiftRight
-symbol_of_operator B.BitAnd = S.And
-symbol_of_operator B.BitOr = S.Or
-symbol_of_operator B.BitXor = S.Caret
-symbol_of_operator B.Eq = S.EqualEqual
-symbol_of_operator B.Ne = S.NotEqual
-symbol_of_operator B.Lt = S.Less
-symbol_of_operator B.Le = S.LessEqual
-symbol_of_operator B.Gt = S.Greater
-symbol_of_operator B.Ge = S.GreaterEqual
-symbol_of_operator B.And = S.AndAnd
-symbol_of_operator B.Or = S.OrOr
 
 -- the loosest level that may stand at the left of an operator of a level without parentheses: operators of one
 -- level group to the left, but comparisons do not stand in a row

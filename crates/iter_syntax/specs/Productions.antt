@@ -1,6 +1,7 @@
 -- The productions of the language, each with the tree that it gives.
 -- A number after a production's name bounds how deep expressions or blocks stand in one another.
-use Rattle.std.specs.Prelude.{ℕ, zero, suc, Bool, true, false, ◌||◌, nat_eq, List, [], ◌∷◌, Option, Some, None}
+-- `framed` gives a form sets for its parser (`Steps/Sets.antt`), and leaves its grammar.
+use Rattle.std.specs.Prelude.{ℕ, zero, suc, Bool, true, false, nat_eq, List, [], ◌∷◌, Option, Some, None}
 use Rattle.iter_syntax.specs.declared.tree.Place.{Place}
 use Rattle.iter_syntax.specs.declared.tree.Word.{Word}
 use Rattle.iter_syntax.specs.declared.tree.BinaryOp.{BinaryOp}
@@ -26,6 +27,7 @@ use Rattle.iter_syntax.specs.declared.token.Keyword.TheVariants as W
 use Rattle.iter_syntax.specs.declared.token.Symbol.{Symbol}
 use Rattle.iter_syntax.specs.declared.token.Symbol.TheVariants as S
 use Rattle.iter_syntax.specs.Kinds.{is_keyword, is_symbol, is_name, is_next, is_number, is_operator, kind_operator}
+use Rattle.iter_syntax.specs.Steps.Sets.{begins_expr, goes_on, follows_expr, begins_stmt, no_kind, begins_decl}
 use Rattle.iter_syntax.specs.Form.{Form, one, both, gives, any, maybe, or, framed, none}
 
 -- ---- one token and what it gives
@@ -63,8 +65,8 @@ to_number t = (t.place, kind_number t.kind)
 abbrev pub number : Form (Place × ℕ)
 number = gives to_number (one is_number)
 
-abbrev pub found_operator : Option (ℕ × BinaryOp) → BinaryOp
-found_operator (Some x) = x.1
+abbrev pub found_operator : Option BinaryOp → BinaryOp
+found_operator (Some op) = op
 found_operator None = B.Or
 
 abbrev pub to_operator : Token → Place × BinaryOp
@@ -162,25 +164,6 @@ to_not x = E.Not x.0 x.1
 abbrev pub to_flip : Place × Expr → Expr
 to_flip x = E.Flip x.0 x.1
 
--- the tokens that may begin an expression
-abbrev pub begins_expr : Token → Bool
-begins_expr t =
-    is_symbol S.Bang t || is_symbol S.Tilde t || is_number t || is_keyword W.Null t || is_name t || is_keyword W.Cur t
-    || is_keyword W.Pad t || is_keyword W.At t || is_symbol S.OpenRound t
-
--- the tokens that may go on with a whole unary expression
-abbrev pub goes_on : Token → Bool
-goes_on t = is_symbol S.Dot t || is_symbol S.OpenSquare t
-
--- the operators of the levels up to one
-abbrev pub operator_up_to : ℕ → Token → Bool
-operator_up_to zero t = false
-operator_up_to (suc n) t = is_operator (suc n) t || operator_up_to n t
-
--- the tokens that may go on with a whole expression
-abbrev pub follows_expr : Token → Bool
-follows_expr t = operator_up_to 7 t || goes_on t
-
 abbrev pub expr_over : Form Expr → Form Expr
 expr_over u = framed begins_expr follows_expr (level 7 u)
 
@@ -217,17 +200,22 @@ to_set x = T.Set x.0.place x.0 x.1.1.0
 abbrev pub set_over : Form Expr → Form Stmt
 set_over e = gives to_set (both word (both (symbol S.Assign) (both e (symbol S.Semicolon))))
 
-abbrev pub to_set_pad : Place × (Place × (FieldUse × (Place × (Expr × Place)))) → Stmt
-to_set_pad x = T.SetPad x.0 x.1.1.0 x.1.1.1.1.0
+abbrev pub to_target : Place × (Place × (FieldUse × (Place × (Expr × Place)))) → Place × FieldUse × Expr
+to_target x = (x.0, x.1.1.0, x.1.1.1.1.0)
 
-abbrev pub to_set_cur : Place × (Place × (FieldUse × (Place × (Expr × Place)))) → Stmt
-to_set_cur x = T.SetCur x.0 x.1.1.0 x.1.1.1.1.0
+-- `cur` or `pad`, and a value for a field of it
+abbrev pub target_over : Keyword → Form Expr → Form (Place × FieldUse × Expr)
+target_over k e =
+    gives to_target (both (keyword k) (both (symbol S.Dot) (both (use_over e) (both (symbol S.Assign) (both e (symbol S.Semicolon))))))
 
-abbrev pub target_over : Keyword → Form Expr → Form (Place × (Place × (FieldUse × (Place × (Expr × Place)))))
-target_over k e = both (keyword k) (both (symbol S.Dot) (both (use_over e) (both (symbol S.Assign) (both e (symbol S.Semicolon)))))
+abbrev pub to_set_pad : Place × FieldUse × Expr → Stmt
+to_set_pad x = T.SetPad x.0 x.1 x.2
 
 abbrev pub set_pad_over : Form Expr → Form Stmt
 set_pad_over e = gives to_set_pad (target_over W.Pad e)
+
+abbrev pub to_set_cur : Place × FieldUse × Expr → Stmt
+to_set_cur x = T.SetCur x.0 x.1 x.2
 
 abbrev pub set_cur_over : Form Expr → Form Stmt
 set_cur_over e = gives to_set_cur (target_over W.Cur e)
@@ -262,25 +250,6 @@ to_go x = T.Go x.0 x.1.0
 abbrev pub go_over : Form Expr → Form Stmt
 go_over e = gives to_go (both (keyword W.Go) (both e (symbol S.Semicolon)))
 
-abbrev pub keyword_begins_stmt : Keyword → Bool
-keyword_begins_stmt W.Let = true
-keyword_begins_stmt W.Pad = true
-keyword_begins_stmt W.Cur = true
-keyword_begins_stmt W.If = true
-keyword_begins_stmt W.For = true
-keyword_begins_stmt W.Done = true
-keyword_begins_stmt W.Go = true
-keyword_begins_stmt _ = false
-
-abbrev pub kind_begins_stmt : TokenKind → Bool
-kind_begins_stmt (K.Name w) = true
-kind_begins_stmt (K.Keyword k) = keyword_begins_stmt k
-kind_begins_stmt _ = false
-
--- the tokens that may begin a statement
-abbrev pub begins_stmt : Token → Bool
-begins_stmt t = kind_begins_stmt t.kind
-
 abbrev pub stmt_over : Form Expr → Form Block → Form Stmt
 stmt_over e b =
     framed begins_stmt (is_keyword W.Else)
@@ -298,9 +267,6 @@ to_block x = record { place = x.0; stmts = x.1.0; close = x.1.1 }
 
 abbrev pub block_over : Form Expr → Form Block → Form Block
 block_over e b = gives to_block (both (symbol S.OpenBrace) (both (any (stmt_over e b)) (symbol S.CloseBrace)))
-
-abbrev pub no_kind : Token → Bool
-no_kind t = false
 
 abbrev pub nested_block : ℕ → Form Block
 nested_block zero = none (is_symbol S.OpenBrace) no_kind
@@ -423,19 +389,6 @@ iters_of (an_iter i ∷ ds) = i ∷ iters_of ds
 
 abbrev pub to_program : List Decl → Program
 to_program ds = record { records = records_of ds; iters = iters_of ds }
-
-abbrev pub keyword_begins_decl : Keyword → Bool
-keyword_begins_decl W.Record = true
-keyword_begins_decl W.Iter = true
-keyword_begins_decl _ = false
-
-abbrev pub kind_begins_decl : TokenKind → Bool
-kind_begins_decl (K.Keyword k) = keyword_begins_decl k
-kind_begins_decl _ = false
-
--- the tokens that may begin a record or an iterator
-abbrev pub begins_decl : Token → Bool
-begins_decl t = kind_begins_decl t.kind
 
 abbrev pub decl_over : Form Block → Form Decl
 decl_over b = framed begins_decl no_kind (or (gives a_record record_decl) (gives an_iter (iter_over b)))

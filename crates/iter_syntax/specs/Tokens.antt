@@ -1,13 +1,10 @@
 -- The tokens of a text, and the first place where none begins.
-use Rattle.std.specs.Prelude.{◌≡◌, ℕ, ◌+◌, ◌<◌, Bool, true, false, ◌==◌, ◌||◌, not, List, [], ◌∷◌, ◌++◌, length, Some, None, Ok, Err, Result}
+use Rattle.std.specs.Prelude.{◌≡◌, ℕ, ◌+◌, ◌<◌, Bool, true, false, ◌==◌, ◌||◌, not, List, [], ◌∷◌, ◌++◌, length}
 use Rattle.std.specs.List.{list_all}
-use Rattle.iter_syntax.specs.declared.fault.SyntaxFault.{SyntaxFault}
-use Rattle.iter_syntax.specs.declared.fault.SyntaxFault.TheVariants as F
 use Rattle.iter_syntax.specs.declared.token.Token.{Token}
 use Rattle.iter_syntax.specs.declared.token.TokenKind.{TokenKind}
 use Rattle.iter_syntax.specs.Bytes.{is_separator}
 use Rattle.iter_syntax.specs.Spelling.{Spells, first_is, Ends}
-use Rattle.iter_syntax.specs.Deep.{deep_place}
 
 -- any bytes but LF
 abbrev pub in_line : List ℕ → Bool
@@ -52,17 +49,3 @@ pub record IsLexPlace (text : List ℕ) (place : ℕ) : Type 0 where
   pub some : 0 < length rest
   pub no_gap : first_is begins_gap rest ≡ false
   pub no_token : NoToken rest
-
--- what reading the tokens of a text answers: its Lex place goes before its Deep place
-abbrev pub TokensAnswer : List ℕ → Result (List Token) SyntaxFault → Type 0
-TokensAnswer text (Ok ts) = AreTokens text ts × (deep_place ts ≡ None)
-TokensAnswer text (Err (F.Lex place)) = IsLexPlace text place
-TokensAnswer text (Err (F.Deep place)) = (ts : List Token) × AreTokens text ts × (deep_place ts ≡ Some place)
-TokensAnswer text (Err (F.Syntax place)) = ⊥
-TokensAnswer text (Err F.Memory) = Unit {0}
-
--- a text has one token list or one Lex place, and not both
-pub record HasOneReading (text : List ℕ) : Type 0 where
-  pub tokens : (ts us : List Token) → AreTokens text ts → AreTokens text us → ts ≡ us
-  pub lex : (m n : ℕ) → IsLexPlace text m → IsLexPlace text n → m ≡ n
-  pub apart : (ts : List Token) (n : ℕ) → AreTokens text ts → IsLexPlace text n → ⊥

@@ -6,7 +6,8 @@ mod reader;
 mod stmt;
 
 ghost use Rattle.std.specs.Prelude.{◌≡◌, ◌≤◌, ◌+◌, ◌<◌, length, slice_get};
-ghost use Rattle.iter_syntax.specs.Parsed.{ParseAnswer, TokensParsed, HasOneProgram, offset_of};
+ghost use Rattle.iter_syntax.specs.Parsed.{ParseAnswer, HasOneProgram, offset_of};
+ghost use Rattle.iter_syntax.specs.Steps.Reads.{TokensParsed};
 
 use crate::fault::SyntaxFault;
 use crate::token::Token;

@@ -5,8 +5,8 @@ mod front;
 mod gap;
 
 ghost use Rattle.std.specs.Prelude.{◌≤◌, length};
-ghost use Rattle.iter_syntax.specs.Tokens.{TokensAnswer, HasOneReading};
-ghost use Rattle.iter_syntax.specs.Reading.{ReadAnswer};
+ghost use Rattle.iter_syntax.specs.Steps.Reading.{TokensAnswer, HasOneReading};
+ghost use Rattle.iter_syntax.specs.Steps.Reading.{ReadAnswer};
 
 use crate::fault::SyntaxFault;
 use crate::token::Token;

@@ -8,10 +8,12 @@ use Rattle.iter_syntax.specs.declared.token.Symbol.TheVariants as S
 use Rattle.iter_syntax.specs.declared.tree.Expr.{Expr}
 use Rattle.iter_syntax.specs.declared.tree.Block.{Block}
 use Rattle.iter_syntax.specs.Grammar.{Grammar, token, pair, value, row, many, optional, whole_or_nothing, either, nothing}
-use Rattle.iter_syntax.specs.Form.{Form, Reading, Read, Stuck, both}
-use Rattle.iter_syntax.specs.Kinds.{is_symbol, is_keyword, is_name}
+use Rattle.iter_syntax.specs.Form.{Form, both}
+use Rattle.iter_syntax.specs.Steps.Parsers.{Reading, Read, Stuck}
+use Rattle.iter_syntax.specs.Kinds.{is_symbol, is_keyword}
 use Rattle.iter_syntax.specs.Productions as P
-use Rattle.iter_syntax.proofs.Grammar.Exact.{Tokens, Fitting, nil_left}
+use Rattle.iter_syntax.proofs.Grammar.Splits.{Tokens}
+use Rattle.iter_syntax.proofs.Grammar.Exact.{Fitting, nil_left}
 use Rattle.iter_syntax.proofs.Grammar.ExactForm.{IsExact}
 use Rattle.iter_syntax.proofs.Grammar.ExactExpr.{unary_ok}
 use Rattle.iter_syntax.proofs.Grammar.ExactStmt.{block_ok}
@@ -106,17 +108,11 @@ Like k a b = Under k a.grammar b.grammar
 token_solid : (f : Token → Bool) → Solid (token f)
 token_solid f u x w = omega (arith, ap length w.0)
 
-value_solid : {A B : Type 0} (f : A → B) (a : Grammar A) → Solid a → Solid (value f a)
-value_solid f a s u y w = s u w.0 w.1
-
 symbol_solid : (s : Symbol) → Solid (P.symbol s).grammar
 symbol_solid s u x w = token_solid (is_symbol s) u w.0 w.1
 
 keyword_solid : (k : Keyword) → Solid (P.keyword k).grammar
 keyword_solid k u x w = token_solid (is_keyword k) u w.0 w.1
-
-word_solid : Solid P.word.grammar
-word_solid u x w = token_solid is_name u w.0 w.1
 
 begins_nothing : {A : Type 0} (f : Form A) → IsExact f → f.grammar.begins []
 begins_nothing f ok = by_reading (f.parse []) (ok.sound [])
@@ -183,7 +179,7 @@ stmt_like k e f a b h g =
     assign = under_pair k _ _ _ _ (same k _) end
 
     target : (w : Keyword) → Under k (P.target_over w e).grammar (P.target_over w f).grammar
-    target w = under_pair k _ _ _ _ (same k _) (under_pair k _ _ _ _ (same k _) (under_pair k _ _ _ _ (less k _ _ (use_like k e f h)) assign))
+    target w = under_value k _ _ _ (under_pair k _ _ _ _ (same k _) (under_pair k _ _ _ _ (same k _) (under_pair k _ _ _ _ (less k _ _ (use_like k e f h)) assign)))
 
 block_like : (k n : ℕ) → Like k (P.block n) (P.block k)
 block_like zero n = under_zero _ _

@@ -1,11 +1,9 @@
 -- A parser that looks one token ahead answers by its grammar: one token, a pair, another value.
-use Rattle.std.proofs.Common.{◌≡◌, ℕ, ◌≤◌, Bool, true, false, ◌||◌, if◌then◌else◌, List, [], ◌∷◌, ◌++◌, length, refl, sym, ap, ◌∙◌, subst, inl, inr, arith, append_assoc, append-nil, length-append}
+use Rattle.std.proofs.Common.{◌≡◌, ℕ, ◌≤◌, Bool, true, false, ◌||◌, if◌then◌else◌, [], ◌∷◌, ◌++◌, length, refl, sym, ap, ◌∙◌, subst, ◌⊎◌, inl, inr, arith, append_assoc, append-nil, length-append}
 use Rattle.iter_syntax.specs.declared.token.Token.{Token}
 use Rattle.iter_syntax.specs.Grammar.{Grammar, token, pair, value}
-use Rattle.iter_syntax.specs.Form.{Reading, Read, Stuck, bind, Parser, read_token, read_pair, read_value, at_first}
-
-abbrev pub Tokens : Type 0
-Tokens = List Token
+use Rattle.iter_syntax.specs.Steps.Parsers.{Reading, Read, Stuck, bind, Parser, read_token, read_pair, read_value, at_first}
+use Rattle.iter_syntax.proofs.Grammar.Splits.{Tokens, Within, splits}
 
 -- no token follows that would go on with the form
 abbrev pub Off : (Token → Bool) → Tokens → Type 0
@@ -27,6 +25,7 @@ pub record Exact {A : Type 0} (g : Grammar A) (p : Parser A) (first more : Token
   pub viable : (v w : Tokens) → g.begins v → Leaves (length w) (p (v ++ w))
   pub starts : (t : Token) (v : Tokens) → g.begins (t ∷ v) → first t ≡ true
   pub within : (u : Tokens) (a : A) → g.whole u a → g.begins u
+  pub opens : (u v : Tokens) → g.begins (u ++ v) → g.begins u
   pub solid : (a : A) → g.whole [] a → empty ≡ true
 
 pub shorter : {A : Type 0} (g : Grammar A) (ts : Tokens) (r : Reading A) → Fitting g ts r → Leaves (length ts) r
@@ -61,6 +60,7 @@ token_right k = record {
   viable = viable;
   starts = starts;
   within = λ u a h. inr (a, h.0, h.1);
+  opens = opens;
   solid = λ a h. absurd (solid a h.0);
 }
   where
@@ -71,6 +71,14 @@ token_right k = record {
     starts : (t : Token) (v : Tokens) → (token k).begins (t ∷ v) → k t ≡ true
     starts t v (inl e) = absurd (cc)
     starts t v (inr (s, e, h)) = let q : t ≡ s = cc in ap k q ∙ h
+
+    opens : (u v : Tokens) → (token k).begins (u ++ v) → (token k).begins u
+    opens u v (inl e) = inl (nil_left u v e)
+    opens [] v (inr b) = inl refl
+    opens (s ∷ u) v (inr (t, e, h)) =
+        let first : s ≡ t = cc in
+        let others : u ++ v ≡ [] = cc in
+        inr (t, λ i. first i ∷ nil_left u v others i, h)
 
     solid : (a : Token) → [] ≡ a ∷ [] → ⊥
     solid a e = cc
@@ -148,6 +156,14 @@ module _ {A B : Type 0} (ga : Grammar A) (gb : Grammar B) (pa : Parser A) (pb : 
       let q : t ≡ s = cc in
       let f = a.starts s u (a.within (s ∷ u) x wa) in grind arith
 
+  pair_opens : (u v : Tokens) → (pair ga gb).begins (u ++ v) → (pair ga gb).begins u
+  pair_opens u v (inl h) = inl (a.opens u v h)
+  pair_opens u v (inr (s, t, x, e, w, h)) = by_side (splits u v s t e)
+    where
+      by_side : Within u v s t ⊎ Within s t u v → (pair ga gb).begins u
+      by_side (inl i) = inl (a.opens u i.between (subst ga.begins i.longer (a.within s x w)))
+      by_side (inr i) = inr (s, i.between, x, i.longer, w, b.opens i.between v (subst gb.begins i.rest h))
+
   pub then_right : Exact (pair ga gb) (read_pair pa pb) (first_then fa fb ea) more2 (if ea then eb else false)
   then_right = record {
     sound = pair_sound;
@@ -155,6 +171,7 @@ module _ {A B : Type 0} (ga : Grammar A) (gb : Grammar B) (pa : Parser A) (pb : 
     viable = pair_viable;
     starts = pair_starts;
     within = λ u x w. inr (w.0, w.1, x.0, w.2, w.3, b.within w.1 x.1 w.4);
+    opens = pair_opens;
     solid = solid;
   }
     where
@@ -175,6 +192,7 @@ value_right f g p first more empty r = record {
   viable = λ v w h. past (length w) (p (v ++ w)) (r.viable v w h);
   starts = r.starts;
   within = λ u y w. r.within u w.0 w.1;
+  opens = r.opens;
   solid = λ y w. r.solid w.0 w.1;
 }
   where

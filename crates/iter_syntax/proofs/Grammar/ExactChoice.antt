@@ -2,8 +2,9 @@
 use Rattle.std.proofs.Common.{◌≡◌, ℕ, Bool, true, false, ◌||◌, if◌then◌else◌, [], ◌∷◌, ◌++◌, length, refl, sym, ap, ◌∙◌, subst, inl, inr, arith, Option, Some, None}
 use Rattle.iter_syntax.specs.declared.token.Token.{Token}
 use Rattle.iter_syntax.specs.Grammar.{Grammar, optional, either}
-use Rattle.iter_syntax.specs.Form.{Reading, Read, Stuck, bind, Parser, at_first, read_optional, read_either}
-use Rattle.iter_syntax.proofs.Grammar.Exact.{Tokens, Off, Fitting, Leaves, Exact, shorter}
+use Rattle.iter_syntax.specs.Steps.Parsers.{Reading, Read, Stuck, bind, Parser, at_first, read_optional, read_either}
+use Rattle.iter_syntax.proofs.Grammar.Splits.{Tokens}
+use Rattle.iter_syntax.proofs.Grammar.Exact.{Off, Fitting, Leaves, Exact, shorter, nil_left}
 
 -- one form or another
 
@@ -59,12 +60,16 @@ module _ {A : Type 0} (ga gb : Grammar A) (pa pb : Parser A) (fa ma fb mb : Toke
   or_within u x (inl w) = inl (a.within u x w)
   or_within u x (inr w) = inr (b.within u x w)
 
+  or_opens : (u v : Tokens) → (either ga gb).begins (u ++ v) → (either ga gb).begins u
+  or_opens u v (inl h) = inl (a.opens u v h)
+  or_opens u v (inr h) = inr (b.opens u v h)
+
   or_solid : (x : A) → (either ga gb).whole [] x → false ≡ true
   or_solid x (inl w) = a.solid x w
   or_solid x (inr w) = b.solid x w
 
   pub either_right : Exact (either ga gb) (read_either fa pa pb) (λ t. fa t || fb t) more_or false
-  either_right = record { sound = or_sound; complete = or_complete; viable = or_viable; starts = or_starts; within = or_within; solid = or_solid }
+  either_right = record { sound = or_sound; complete = or_complete; viable = or_viable; starts = or_starts; within = or_within; opens = or_opens; solid = or_solid }
 
 -- a form or nothing
 module _ {A : Type 0} (g : Grammar A) (p : Parser A) (first more : Token → Bool) (r : Exact g p first more false) where
@@ -122,8 +127,12 @@ module _ {A : Type 0} (g : Grammar A) (p : Parser A) (first more : Token → Boo
   maybe_within u None w = inl w
   maybe_within u (Some a) w = inr (r.within u a w)
 
+  maybe_opens : (u v : Tokens) → (optional g).begins (u ++ v) → (optional g).begins u
+  maybe_opens u v (inl e) = inl (nil_left u v e)
+  maybe_opens u v (inr h) = inr (r.opens u v h)
+
   pub optional_right : Exact (optional g) (read_optional first p) first more_maybe true
-  optional_right = record { sound = maybe_sound; complete = maybe_complete; viable = maybe_viable; starts = maybe_starts; within = maybe_within; solid = λ x w. refl }
+  optional_right = record { sound = maybe_sound; complete = maybe_complete; viable = maybe_viable; starts = maybe_starts; within = maybe_within; opens = maybe_opens; solid = λ x w. refl }
 
 -- larger sets
 off_less : (less more : Token → Bool) → ((t : Token) → less t ≡ true → more t ≡ true) → (ts : Tokens) → Off more ts → Off less ts
@@ -141,5 +150,6 @@ framed_right g p first more first2 more2 le1 le2 r = record {
   viable = r.viable;
   starts = λ t v h. le1 t (r.starts t v h);
   within = r.within;
+  opens = r.opens;
   solid = r.solid;
 }

@@ -5,6 +5,7 @@ use Rattle.iter_syntax.specs.declared.token.Keyword.TheVariants as W
 use Rattle.iter_syntax.specs.declared.token.Symbol.TheVariants as S
 use Rattle.iter_syntax.specs.Form.{any}
 use Rattle.iter_syntax.specs.Productions as P
+use Rattle.iter_syntax.specs.Steps.Sets
 use Rattle.iter_syntax.proofs.EachKind.{apart, part}
 use Rattle.iter_syntax.proofs.Grammar.ExactForm.{IsExact, one_ok, gives_ok, any_ok, maybe_ok, or_ok, framed_ok}
 use Rattle.iter_syntax.proofs.Grammar.ExactExpr.{after, symbol_ok, keyword_ok, word_ok, number_ok, brackets_ok}
@@ -67,7 +68,7 @@ iter_ok n =
     (symbol_ok S.CloseBrace)))))))))))))))
 
 pub decl_ok : (n : ℕ) → IsExact (P.decl_over (P.block n))
-decl_ok n = framed_ok P.begins_decl P.no_kind _ refl (part _ _ (λ p. ((λ w. refl), (λ n. refl), refl, refl))) (λ t h. h) (or_ok _ _ refl refl (gives_ok P.a_record _ record_ok) (gives_ok P.an_iter _ (iter_ok n)) (apart _ _ (λ p. ((λ w. refl), (λ n. refl), refl, refl))))
+decl_ok n = framed_ok Sets.begins_decl Sets.no_kind _ refl (part _ _ (λ p. ((λ w. refl), (λ n. refl), refl, refl))) (λ t h. h) (or_ok _ _ refl refl (gives_ok P.a_record _ record_ok) (gives_ok P.an_iter _ (iter_ok n)) (apart _ _ (λ p. ((λ w. refl), (λ n. refl), refl, refl))))
 
 pub program_ok : (n : ℕ) → IsExact (P.program n)
 program_ok n = gives_ok P.to_program _ (any_ok _ refl (decl_ok n) (λ t h. refl))

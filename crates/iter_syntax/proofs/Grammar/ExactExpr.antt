@@ -11,6 +11,7 @@ use Rattle.iter_syntax.specs.declared.token.Symbol.TheVariants as S
 use Rattle.iter_syntax.specs.Kinds.{is_symbol, is_operator, has_level, kind_operator}
 use Rattle.iter_syntax.specs.Form.{Form, both, none}
 use Rattle.iter_syntax.specs.Productions as P
+use Rattle.iter_syntax.specs.Steps.Sets
 use Rattle.iter_syntax.proofs.EachKind.{apart, part}
 use Rattle.iter_syntax.proofs.Grammar.ExactForm.{IsExact, one_ok, both_ok, gives_ok, any_ok, maybe_ok, or_ok, framed_ok, none_ok}
 
@@ -37,25 +38,25 @@ after a b closed ra rb = both_ok a b ra rb (λ t h. closed t)
 
 -- ---- the levels
 
-abbrev some_level : Option (ℕ × BinaryOp) → Bool
+abbrev some_level : Option BinaryOp → Bool
 some_level (Some x) = true
 some_level None = false
 
 abbrev an_operator : Token → Bool
 an_operator t = some_level (kind_operator t.kind)
 
-has_one : (n : ℕ) (x : Option (ℕ × BinaryOp)) → has_level n x ≡ true → some_level x ≡ true
+has_one : (n : ℕ) (x : Option BinaryOp) → has_level n x ≡ true → some_level x ≡ true
 has_one n (Some x) h = refl
 has_one n None h = h
 
-operator_off : (t : Token) → an_operator t ≡ true → P.goes_on t ≡ false
-operator_off = apart an_operator P.goes_on (λ p. ((λ w. refl), (λ n. refl), refl, refl))
+operator_off : (t : Token) → an_operator t ≡ true → Sets.goes_on t ≡ false
+operator_off = apart an_operator Sets.goes_on (λ p. ((λ w. refl), (λ n. refl), refl, refl))
 
-one_level : (m n : ℕ) (x : Option (ℕ × BinaryOp)) → n < m → has_level m x ≡ true → has_level n x ≡ false
+one_level : (m n : ℕ) (x : Option BinaryOp) → n < m → has_level m x ≡ true → has_level n x ≡ false
 one_level m n (Some x) lt h = grind arith
 one_level m n None lt h = refl
 
-below : (m n : ℕ) (t : Token) → n < m → is_operator m t ≡ true → P.operator_up_to n t ≡ false
+below : (m n : ℕ) (t : Token) → n < m → is_operator m t ≡ true → Sets.operator_up_to n t ≡ false
 below m zero t lt h = refl
 below m (suc n) t lt h =
     let e1 = one_level m (suc n) (kind_operator t.kind) lt h in
@@ -83,22 +84,22 @@ join true b c d f h = refl
 join false b c true f h = f refl
 join false b c false f h = absurd (cc)
 
-level_more : (n : ℕ) (u : Form Expr) → u.empty ≡ false → (t : Token) → (P.level n u).more t ≡ true → (P.operator_up_to n t || u.more t) ≡ true
+level_more : (n : ℕ) (u : Form Expr) → u.empty ≡ false → (t : Token) → (P.level n u).more t ≡ true → (Sets.operator_up_to n t || u.more t) ≡ true
 level_more zero u h t f = f
 level_more (suc n) u h t f = by_case (nat_eq n 4) refl (level_solid n u h) (level_more n u h t) f
   where
-    by_case : (b : Bool) → nat_eq n 4 ≡ b → (P.level n u).empty ≡ false → ((P.level n u).more t ≡ true → (P.operator_up_to n t || u.more t) ≡ true) → (P.row_of b (suc n) (P.level n u)).more t ≡ true → (P.operator_up_to (suc n) t || u.more t) ≡ true
+    by_case : (b : Bool) → nat_eq n 4 ≡ b → (P.level n u).empty ≡ false → ((P.level n u).more t ≡ true → (Sets.operator_up_to n t || u.more t) ≡ true) → (P.row_of b (suc n) (P.level n u)).more t ≡ true → (Sets.operator_up_to (suc n) t || u.more t) ≡ true
     by_case true is e ih f =
         let q : n ≡ 4 = grind arith in
         let five : is_operator (suc n) t ≡ is_operator 5 t = ap (λ k. is_operator (suc k) t) q in
         let g = rw e at f in
-        ap (λ b. (b || P.operator_up_to n t) || u.more t) five ∙ join (is_operator 5 t) (P.operator_up_to n t) (u.more t) ((P.level n u).more t) ih g
+        ap (λ b. (b || Sets.operator_up_to n t) || u.more t) five ∙ join (is_operator 5 t) (Sets.operator_up_to n t) (u.more t) ((P.level n u).more t) ih g
     by_case false is e ih f =
         let g = rw e at f in
-        join (is_operator (suc n) t) (P.operator_up_to n t) (u.more t) ((P.level n u).more t) ih g
+        join (is_operator (suc n) t) (Sets.operator_up_to n t) (u.more t) ((P.level n u).more t) ih g
 
 -- an operator of a level above does not go on with an operand
-operand_off : (n : ℕ) (u : Form Expr) → u.empty ≡ false → ((t : Token) → u.more t ≡ true → P.goes_on t ≡ true) → (t : Token) → is_operator (suc n) t ≡ true → (P.level n u).more t ≡ false
+operand_off : (n : ℕ) (u : Form Expr) → u.empty ≡ false → ((t : Token) → u.more t ≡ true → Sets.goes_on t ≡ true) → (t : Token) → is_operator (suc n) t ≡ true → (P.level n u).more t ≡ false
 operand_off n u h m t is = by_more ((P.level n u).more t) refl
   where
     by_more : (b : Bool) → (P.level n u).more t ≡ b → (P.level n u).more t ≡ false
@@ -106,7 +107,7 @@ operand_off n u h m t is = by_more ((P.level n u).more t) refl
     by_more true e =
         let o = below (suc n) n t (omega arith) is in
         let g = operator_off t (has_one (suc n) (kind_operator t.kind) is) in
-        absurd (rest (P.operator_up_to n t) (u.more t) (P.goes_on t) o g (m t) (level_more n u h t e))
+        absurd (rest (Sets.operator_up_to n t) (u.more t) (Sets.goes_on t) o g (m t) (level_more n u h t e))
       where
         rest : (o a g : Bool) → o ≡ false → g ≡ false → (a ≡ true → g ≡ true) → (o || a) ≡ true → ⊥
         rest true a g e1 e2 f h = cc
@@ -122,7 +123,7 @@ chain_ok n a h ra off = gives_ok P.grouped _ (both_ok _ _ ra (any_ok _ refl (aft
 comparison_ok : (a : Form Expr) → a.empty ≡ false → IsExact a → ((t : Token) → is_operator 5 t ≡ true → a.more t ≡ false) → IsExact (P.comparison a)
 comparison_ok a h ra off = gives_ok P.compared _ (both_ok _ _ ra (maybe_ok _ refl (after _ _ (λ t. refl) (operator_ok 5) ra)) off)
 
-level_ok : (n : ℕ) (u : Form Expr) → u.empty ≡ false → ((t : Token) → u.more t ≡ true → P.goes_on t ≡ true) → IsExact u → IsExact (P.level n u)
+level_ok : (n : ℕ) (u : Form Expr) → u.empty ≡ false → ((t : Token) → u.more t ≡ true → Sets.goes_on t ≡ true) → IsExact u → IsExact (P.level n u)
 level_ok zero u h m ru = ru
 level_ok (suc n) u h m ru = by_case (nat_eq n 4) refl (level_ok n u h m ru)
   where
@@ -136,7 +137,7 @@ level_ok (suc n) u h m ru = by_case (nat_eq n 4) refl (level_ok n u h m ru)
 
 pub expr_ok : (n : ℕ) → IsExact (P.unary n) → IsExact (P.expr n)
 expr_ok n ru =
-    framed_ok P.begins_expr P.follows_expr (P.level 7 (P.unary n)) (level_solid 7 (P.unary n) refl) (λ t h. level_first 7 (P.unary n) refl t h) (λ t h. level_more 7 (P.unary n) refl t h)
+    framed_ok Sets.begins_expr Sets.follows_expr (P.level 7 (P.unary n)) (level_solid 7 (P.unary n) refl) (λ t h. level_first 7 (P.unary n) refl t h) (λ t h. level_more 7 (P.unary n) refl t h)
     (level_ok 7 (P.unary n) refl (λ t h. h) ru)
 
 -- ---- brackets, which hold a form that does not go on with the closing one
@@ -188,10 +189,10 @@ module _ (n : ℕ) (re : IsExact (P.expr n)) where
       (apart _ _ (λ p. ((λ w. refl), (λ n. refl), refl, refl)))
 
 pub unary_ok : (n : ℕ) → IsExact (P.unary n)
-unary_ok zero = framed_ok P.begins_expr P.goes_on (none P.begins_expr P.goes_on) refl (λ t h. h) (λ t h. h) (none_ok _ _ _)
+unary_ok zero = framed_ok Sets.begins_expr Sets.goes_on (none Sets.begins_expr Sets.goes_on) refl (λ t h. h) (λ t h. h) (none_ok _ _ _)
 unary_ok (suc n) =
     let ru = unary_ok n in
-    framed_ok P.begins_expr P.goes_on (P.unary_over (P.unary n)) refl (part _ _ (λ p. ((λ w. refl), (λ n. refl), refl, refl))) (part _ _ (λ p. ((λ w. refl), (λ n. refl), refl, refl)))
+    framed_ok Sets.begins_expr Sets.goes_on (P.unary_over (P.unary n)) refl (part _ _ (λ p. ((λ w. refl), (λ n. refl), refl, refl))) (part _ _ (λ p. ((λ w. refl), (λ n. refl), refl, refl)))
     (unary_over_ok n (expr_ok n ru) ru)
 
 -- an operator and its operand, as they stand in a chain

@@ -2,8 +2,7 @@
 use Rattle.std.proofs.Common.{◌≡◌, ◌≤◌, Bool, true, false, [], ◌++◌, length, refl, sym, subst, arith}
 use Rattle.iter_syntax.specs.declared.token.Token.{Token}
 use Rattle.iter_syntax.specs.Form.{Form, one, both, gives, any, maybe, or, framed, none}
-use Rattle.iter_syntax.proofs.Grammar.Exact.{Exact}
-use Rattle.iter_syntax.proofs.Grammar.Exact.{token_right, then_right, value_right}
+use Rattle.iter_syntax.proofs.Grammar.Exact.{Exact, nil_left, token_right, then_right, value_right}
 use Rattle.iter_syntax.proofs.Grammar.ExactMany.{many_right}
 use Rattle.iter_syntax.proofs.Grammar.ExactChoice.{either_right, optional_right, framed_right}
 
@@ -32,6 +31,7 @@ none_ok A first more = record {
   viable = λ v w e. subst (λ l. length (l ++ w) ≤ length w) (sym e) (omega arith);
   starts = λ t v e. absurd (cc);
   within = λ u a w. absurd w;
+  opens = λ u v e. nil_left u v e;
   solid = λ a w. absurd w;
 }
 

@@ -2,8 +2,9 @@
 use Rattle.std.proofs.Common.{◌≡◌, ℕ, zero, suc, ◌≤◌, Bool, true, false, ◌||◌, if◌then◌else◌, List, [], ◌∷◌, ◌++◌, length, refl, sym, ap, ◌∙◌, subst, ◌⊎◌, inl, inr, arith, append_assoc, append-nil, length-append}
 use Rattle.iter_syntax.specs.declared.token.Token.{Token}
 use Rattle.iter_syntax.specs.Grammar.{Grammar, row, many}
-use Rattle.iter_syntax.specs.Form.{Reading, Read, Stuck, bind, Parser, at_first, read_up_to, read_many}
-use Rattle.iter_syntax.proofs.Grammar.Exact.{Tokens, Off, Fitting, Leaves, Exact, shorter, past_more}
+use Rattle.iter_syntax.specs.Steps.Parsers.{Reading, Read, Stuck, bind, Parser, at_first, read_up_to, read_many}
+use Rattle.iter_syntax.proofs.Grammar.Splits.{Tokens, Within, splits}
+use Rattle.iter_syntax.proofs.Grammar.Exact.{Off, Fitting, Leaves, Exact, shorter, past_more, nil_left}
 
 module _ {A : Type 0} (g : Grammar A) (p : Parser A) (first more : Token → Bool) (r : Exact g p first more false) (apart : (t : Token) → first t ≡ true → more t ≡ false) where
   abbrev more_many : Token → Bool
@@ -171,6 +172,19 @@ module _ {A : Type 0} (g : Grammar A) (p : Parser A) (first more : Token → Boo
   pub many_done : (ts : Tokens) → at_first first ts ≡ false → read_many first p ts ≡ Read [] ts
   many_done ts h = many_stop (length ts) ts h
 
+  row_opens : (xs : List A) (s t u v : Tokens) → u ++ v ≡ s ++ t → row g xs s → (t ≡ []) ⊎ g.begins t → (many g).begins u
+  row_opens [] s t u v e w (inl none) = ([], u, [], refl, refl, inl (nil_left u v (e ∙ ap (λ l. l ++ t) w ∙ none)))
+  row_opens [] s t u v e w (inr b) = ([], u, [], refl, refl, inr (r.opens u v (subst g.begins (sym (e ∙ ap (λ l. l ++ t) w)) b)))
+  row_opens (x ∷ xs) s t u v e w last =
+      by_side (λ m is. row_opens xs w.1 t m v is w.4 last) (splits u v w.0 (w.1 ++ t) (e ∙ ap (λ l. l ++ t) w.2 ∙ append_assoc w.0 w.1 t))
+    where
+      and_one : (m : Tokens) → u ≡ w.0 ++ m → (many g).begins m → (many g).begins u
+      and_one m is h = (w.0 ++ h.0, h.1, x ∷ h.2, is ∙ ap (λ l. w.0 ++ l) h.3 ∙ sym (append_assoc w.0 h.0 h.1), (w.0, h.0, refl, w.3, h.4), h.5)
+
+      by_side : ((m : Tokens) → m ++ v ≡ w.1 ++ t → (many g).begins m) → Within u v w.0 (w.1 ++ t) ⊎ Within w.0 (w.1 ++ t) u v → (many g).begins u
+      by_side ih (inl i) = ([], u, [], refl, refl, inr (r.opens u i.between (subst g.begins i.longer (r.within w.0 x w.3))))
+      by_side ih (inr i) = and_one i.between i.longer (ih i.between (sym i.rest))
+
   pub many_right : Exact (many g) (read_many first p) first more_many true
   many_right = record {
     sound = λ ts. many_sound (length ts) ts;
@@ -178,5 +192,6 @@ module _ {A : Type 0} (g : Grammar A) (p : Parser A) (first more : Token → Boo
     viable = λ v w b. subst (λ l. Leaves (length w) (read_many first p (l ++ w))) (sym b.3) (many_viable b.2 (length ((b.0 ++ b.1) ++ w)) b.0 b.1 w (omega arith) b.4 b.5);
     starts = λ t v b. row_starts b.2 b.0 b.1 t v b.4 b.5 (sym b.3);
     within = λ u xs w. (u, [], xs, sym (append-nil u), w, inl refl);
+    opens = λ u v b. row_opens b.2 b.0 b.1 u v b.3 b.4 b.5;
     solid = λ xs w. refl;
   }

@@ -8,12 +8,13 @@ use Rattle.iter_syntax.specs.declared.token.Symbol.TheVariants as S
 use Rattle.iter_syntax.specs.Kinds.{is_symbol, is_keyword}
 use Rattle.iter_syntax.specs.Form.{Form, both, any, none}
 use Rattle.iter_syntax.specs.Productions as P
+use Rattle.iter_syntax.specs.Steps.Sets
 use Rattle.iter_syntax.proofs.EachKind.{apart, part}
 use Rattle.iter_syntax.proofs.Grammar.ExactForm.{IsExact, both_ok, gives_ok, any_ok, maybe_ok, or_ok, framed_ok, none_ok}
 use Rattle.iter_syntax.proofs.Grammar.ExactExpr.{after, symbol_ok, keyword_ok, word_ok, number_ok, expr_ok, use_ok, unary_ok}
 
 -- no token that begins a statement goes on with one
-pub stmt_off : (t : Token) → P.begins_stmt t ≡ true → is_keyword W.Else t ≡ false
+pub stmt_off : (t : Token) → Sets.begins_stmt t ≡ true → is_keyword W.Else t ≡ false
 stmt_off = apart _ _ (λ p. ((λ w. refl), (λ n. refl), refl, refl))
 
 module _ (n : ℕ) where
@@ -38,8 +39,8 @@ module _ (n : ℕ) where
 
   target_ok : (k : Keyword) → IsExact (P.target_over k the_expr)
   target_ok k =
-      after _ _ (λ t. refl) (keyword_ok k) (after _ _ (λ t. refl) (symbol_ok S.Dot)
-      (both_ok _ _ (use_ok n e_ok) assign_ok (apart _ _ (λ p. ((λ w. refl), (λ n. refl), refl, refl)))))
+      gives_ok P.to_target _ (after _ _ (λ t. refl) (keyword_ok k) (after _ _ (λ t. refl) (symbol_ok S.Dot)
+      (both_ok _ _ (use_ok n e_ok) assign_ok (apart _ _ (λ p. ((λ w. refl), (λ n. refl), refl, refl))))))
 
   go_ok : IsExact (P.go_over the_expr)
   go_ok = gives_ok P.to_go _ (after _ _ (λ t. refl) (keyword_ok W.Go) value_ok)
@@ -61,7 +62,7 @@ module _ (n : ℕ) where
 
     pub stmt_ok : IsExact (P.stmt n)
     stmt_ok =
-        framed_ok P.begins_stmt (is_keyword W.Else) _ refl (part _ _ (λ p. ((λ w. refl), (λ n. refl), refl, refl))) (part _ _ (λ p. ((λ w. refl), (λ n. refl), refl, refl)))
+        framed_ok Sets.begins_stmt (is_keyword W.Else) _ refl (part _ _ (λ p. ((λ w. refl), (λ n. refl), refl, refl))) (part _ _ (λ p. ((λ w. refl), (λ n. refl), refl, refl)))
         (or_ok _ _ refl refl let_ok
         (or_ok _ _ refl refl set_ok
         (or_ok _ _ refl refl (gives_ok P.to_set_pad _ (target_ok W.Pad))
@@ -90,5 +91,5 @@ module _ (n : ℕ) where
     next_block_ok = framed_ok _ _ (P.block_over the_expr (P.block n)) refl (λ t h. h) (λ t h. h) block_over_ok
 
 pub block_ok : (n : ℕ) → IsExact (P.block n)
-block_ok zero = framed_ok _ _ (none (is_symbol S.OpenBrace) P.no_kind) refl (λ t h. h) (λ t h. h) (none_ok _ _ _)
+block_ok zero = framed_ok _ _ (none (is_symbol S.OpenBrace) Sets.no_kind) refl (λ t h. h) (λ t h. h) (none_ok _ _ _)
 block_ok (suc n) = next_block_ok n (block_ok n)

@@ -5,11 +5,12 @@ use Rattle.iter_syntax.specs.declared.fault.SyntaxFault.{SyntaxFault}
 use Rattle.iter_syntax.specs.declared.fault.SyntaxFault.TheVariants as F
 use Rattle.iter_syntax.specs.declared.token.Token.{Token}
 use Rattle.iter_syntax.specs.declared.tree.Program.{Program}
-use Rattle.iter_syntax.specs.Form.{Read}
+use Rattle.iter_syntax.specs.Steps.Parsers.{Read}
 use Rattle.iter_syntax.specs.Deep.{deep_place}
-use Rattle.iter_syntax.specs.Tokens.{TokensAnswer, HasOneReading}
+use Rattle.iter_syntax.specs.Steps.Reading.{TokensAnswer, HasOneReading}
 use Rattle.iter_syntax.specs.Program.{IsProgram, StopsAt}
-use Rattle.iter_syntax.specs.Parsed.{offset_of, IsProgramOf, TokensParsed, ParseAnswer, HasOneProgram}
+use Rattle.iter_syntax.specs.Parsed.{offset_of, IsProgramOf, ParseAnswer, HasOneProgram}
+use Rattle.iter_syntax.specs.Steps.Reads.{TokensParsed}
 use Rattle.iter_syntax.proofs.Grammar.Stops.{whole_got}
 use Rattle.iter_syntax.proofs.Grammar.ExactDecl.{program_ok}
 use Rattle.iter_syntax.proofs.Grammar.Whole.{whole_is}

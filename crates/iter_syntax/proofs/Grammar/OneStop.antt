@@ -3,12 +3,12 @@ use Rattle.std.specs.Prelude.{slice_get}
 use Rattle.std.proofs.Common.{◌≡◌, ℕ, zero, suc, ◌<◌, ◌≤◌, [], ◌∷◌, ◌++◌, length, take, Some, refl, ap, subst, arith}
 use Rattle.iter_syntax.specs.declared.token.Token.{Token}
 use Rattle.iter_syntax.specs.Program.{BeginsProgram, StopsAt}
-use Rattle.iter_syntax.proofs.Grammar.Exact.{Tokens}
-use Rattle.iter_syntax.proofs.Grammar.OpensForms.{program_opens}
+use Rattle.iter_syntax.proofs.Grammar.Splits.{Tokens}
+use Rattle.iter_syntax.proofs.Grammar.ExactDecl.{program_ok}
 
 -- what begins a beginning of a program begins one
 begins_front : (u v : Tokens) → BeginsProgram (u ++ v) → BeginsProgram u
-begins_front u v h = (h.0, (program_opens h.0).begins u v h.1)
+begins_front u v h = (h.0, (program_ok h.0).opens u v h.1)
 
 -- the first n tokens go on behind the first m with the token there
 record GoesOn (ts : Tokens) (m n : ℕ) : Type 0 where

@@ -2,8 +2,9 @@
 use Rattle.std.proofs.Common.{◌≡◌, Bool, [], ◌∷◌, ◌++◌, length, refl, sym, ap, ◌∙◌, subst, arith, append_assoc, append-nil}
 use Rattle.iter_syntax.specs.declared.token.Token.{Token}
 use Rattle.iter_syntax.specs.Grammar.{Grammar}
-use Rattle.iter_syntax.specs.Form.{Reading, Read, Stuck, Parser}
-use Rattle.iter_syntax.proofs.Grammar.Exact.{Tokens, Fitting, Leaves, Exact}
+use Rattle.iter_syntax.specs.Steps.Parsers.{Reading, Read, Stuck, Parser}
+use Rattle.iter_syntax.proofs.Grammar.Splits.{Tokens}
+use Rattle.iter_syntax.proofs.Grammar.Exact.{Fitting, Leaves, Exact}
 
 -- the tokens are a whole form with this value; or the first n of them begin one, and no more do
 pub record Stops {A : Type 0} (g : Grammar A) (ts rest : Tokens) : Type 0 where

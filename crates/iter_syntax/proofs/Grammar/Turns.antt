@@ -1,5 +1,5 @@
 -- How the reading functions take a level, a row or a depth apart.
-use Rattle.std.proofs.Common.{◌≡◌, ℕ, zero, suc, ◌-◌, ◌≤◌, Bool, true, false, nat_eq, List, [], ◌∷◌, ◌++◌, drop, refl, sym, ap, ◌∙◌, subst, arith, append_assoc, append-nil, Result, Ok, Err}
+use Rattle.std.proofs.Common.{◌≡◌, ℕ, zero, suc, ◌-◌, ◌≤◌, Bool, true, false, nat_eq, List, [], ◌∷◌, ◌++◌, drop, refl, sym, ap, ◌∙◌, subst, arith, append_assoc, Result, Ok, Err}
 use Rattle.iter_syntax.specs.declared.tree.Place.{Place}
 use Rattle.iter_syntax.specs.declared.tree.BinaryOp.{BinaryOp}
 use Rattle.iter_syntax.specs.declared.tree.Expr.{Expr}
@@ -12,25 +12,28 @@ use Rattle.iter_syntax.specs.declared.tree.Block.{Block}
 use Rattle.iter_syntax.specs.declared.tree.RecordDecl.{RecordDecl}
 use Rattle.iter_syntax.specs.declared.tree.Iter.{Iter}
 use Rattle.iter_syntax.specs.Kinds.{is_operator, is_keyword}
-use Rattle.iter_syntax.specs.Form.{gives, Form, Parser, Reading, Read, Stuck, bind, at_first, read_many, both, any}
+use Rattle.iter_syntax.specs.Form.{gives, Form, both, any}
+use Rattle.iter_syntax.specs.Steps.Parsers.{Parser, Reading, Read, Stuck, bind, at_first, read_many}
 use Rattle.iter_syntax.specs.Productions as P
-use Rattle.iter_syntax.specs.Reads.{Reads, chain_rest, after, program_after}
-use Rattle.iter_syntax.proofs.Grammar.Exact.{Tokens, Exact}
-use Rattle.iter_syntax.proofs.Grammar.ExactMany.{many_turn, many_done}
+use Rattle.iter_syntax.specs.Steps.Sets
+use Rattle.iter_syntax.specs.Steps.Reads.{Reads, chain_rest, after, program_after}
+use Rattle.iter_syntax.proofs.Grammar.Splits.{Tokens}
+use Rattle.iter_syntax.proofs.Grammar.Exact.{Exact}
+use Rattle.iter_syntax.proofs.Grammar.ExactMany.{many_turn}
 use Rattle.iter_syntax.proofs.Grammar.ExactExpr as X
 use Rattle.iter_syntax.proofs.Grammar.ExactDecl.{decl_ok}
 
 -- a parser that goes on as another does
-pub reads_as : {A : Type 0} (p q : Parser A) (ts : Tokens) (at at2 : ℕ) (r : Result (A × ℕ) Refused) → p (drop at ts) ≡ q (drop at2 ts) → Reads q ts at2 r → Reads p ts at r
-reads_as p q ts at at2 (Ok x) e h = (h.0, e ∙ h.1)
-reads_as p q ts at at2 (Err (At stop)) e h = (h.0, e ∙ h.1)
-reads_as p q ts at at2 (Err Memory) e h = tt
+pub reads_as : {A : Type 0} (p q : Parser A) (ts : Tokens) (at at2 past past2 : ℕ) (r : Result (A × ℕ) Refused) → past ≤ past2 → p (drop at ts) ≡ q (drop at2 ts) → Reads q ts at2 past2 r → Reads p ts at past r
+reads_as p q ts at at2 past past2 (Ok x) le e h = (omega (arith, h.0), h.1, e ∙ h.2)
+reads_as p q ts at at2 past past2 (Err (At stop)) le e h = (h.0, e ∙ h.1)
+reads_as p q ts at at2 past past2 (Err Memory) le e h = tt
 
-pub unary_reads : (d : ℕ) → (d ≡ 0 → ⊥) → (ts : Tokens) (at : ℕ) (r : Result (Expr × ℕ) Refused) → Reads (P.unary_over (P.unary (d - 1))).parse ts at r → Reads (P.unary d).parse ts at r
-unary_reads zero some ts at r h = absurd (some refl)
-unary_reads (suc d) some ts at r h =
+pub unary_reads : (d : ℕ) → (d ≡ 0 → ⊥) → (ts : Tokens) (at past : ℕ) (r : Result (Expr × ℕ) Refused) → Reads (P.unary_over (P.unary (d - 1))).parse ts at past r → Reads (P.unary d).parse ts at past r
+unary_reads zero some ts at past r h = absurd (some refl)
+unary_reads (suc d) some ts at past r h =
     let e : suc d - 1 ≡ d = omega arith in
-    subst (λ k. Reads (P.unary_over (P.unary k)).parse ts at r) e h
+    subst (λ k. Reads (P.unary_over (P.unary k)).parse ts at past r) e h
 
 -- what stands behind the first form of a pair
 pair_rest : {A B C : Type 0} (a : A) (f : A × B → C) (r : Reading B) → bind (bind r (λ b more. Read (a, b) more)) (λ x left. Read (f x) left) ≡ bind r (λ b left. Read (f (a, b)) left)
@@ -53,21 +56,21 @@ level_stuck m u ts left h = by_case (nat_eq m 4)
     by_case true = rw h
     by_case false = rw h
 
-pub level_reads : (n : ℕ) → (n ≡ 0 → ⊥) → (n ≡ 5 → ⊥) → (u : Form Expr) (ts : Tokens) (at at2 : ℕ) (a : Expr) (r : Result (Expr × ℕ) Refused) → (P.level (n - 1) u).parse (drop at ts) ≡ Read a (drop at2 ts) → Reads (chain_rest n a (P.level (n - 1) u)) ts at2 r → Reads (P.level n u).parse ts at r
-level_reads zero some other u ts at at2 a r h g = absurd (some refl)
-level_reads (suc m) some other u ts at at2 a r h g =
+pub level_reads : (n : ℕ) → (n ≡ 0 → ⊥) → (n ≡ 5 → ⊥) → (u : Form Expr) (ts : Tokens) (at at2 past : ℕ) (a : Expr) (r : Result (Expr × ℕ) Refused) → past ≤ at2 → (P.level (n - 1) u).parse (drop at ts) ≡ Read a (drop at2 ts) → Reads (chain_rest n a (P.level (n - 1) u)) ts at2 at2 r → Reads (P.level n u).parse ts at past r
+level_reads zero some other u ts at at2 past a r le h g = absurd (some refl)
+level_reads (suc m) some other u ts at at2 past a r le h g =
     let e : suc m - 1 ≡ m = omega arith in
     let h2 = subst (λ k. (P.level k u).parse (drop at ts) ≡ Read a (drop at2 ts)) e h in
-    let g2 = subst (λ k. Reads (chain_rest (suc m) a (P.level k u)) ts at2 r) e g in
-    reads_as (P.level (suc m) u).parse (chain_rest (suc m) a (P.level m u)) ts at at2 r (level_goes m u (drop at ts) (drop at2 ts) a (λ q. other (omega arith)) h2) g2
+    let g2 = subst (λ k. Reads (chain_rest (suc m) a (P.level k u)) ts at2 at2 r) e g in
+    reads_as (P.level (suc m) u).parse (chain_rest (suc m) a (P.level m u)) ts at at2 past at2 r le (level_goes m u (drop at ts) (drop at2 ts) a (λ q. other (omega arith)) h2) g2
 
-pub level_refused : (n : ℕ) → (n ≡ 0 → ⊥) → (u : Form Expr) (ts : Tokens) (at : ℕ) (e : Refused) → Reads (P.level (n - 1) u).parse ts at (Err e) → Reads (P.level n u).parse ts at (Err e)
-level_refused zero some u ts at e h = absurd (some refl)
-level_refused (suc m) some u ts at e h =
+pub level_refused : (n : ℕ) → (n ≡ 0 → ⊥) → (u : Form Expr) (ts : Tokens) (at past : ℕ) (e : Refused) → Reads (P.level (n - 1) u).parse ts at past (Err e) → Reads (P.level n u).parse ts at past (Err e)
+level_refused zero some u ts at past e h = absurd (some refl)
+level_refused (suc m) some u ts at past e h =
     let q : suc m - 1 ≡ m = omega arith in
-    by_fault e (subst (λ k. Reads (P.level k u).parse ts at (Err e)) q h)
+    by_fault e (subst (λ k. Reads (P.level k u).parse ts at past (Err e)) q h)
   where
-    by_fault : (e : Refused) → Reads (P.level m u).parse ts at (Err e) → Reads (P.level (suc m) u).parse ts at (Err e)
+    by_fault : (e : Refused) → Reads (P.level m u).parse ts at past (Err e) → Reads (P.level (suc m) u).parse ts at past (Err e)
     by_fault (At stop) h = (h.0, level_stuck m u (drop at ts) (drop stop ts) h.1)
     by_fault Memory h = tt
 
@@ -95,18 +98,11 @@ row_turn f ok off found a ts rest first h =
     ap (after found) (many_turn f.grammar f.parse f.first f.more ok off ts first ∙ ap (λ r. bind r (λ a rest. bind ((any f).parse rest) (λ others more. Read (a ∷ others) more))) h)
     ∙ row_taken found a ((any f).parse rest)
 
-pub row_done : {A : Type 0} (f : Form A) (ok : Exact f.grammar f.parse f.first f.more false) → ((t : Token) → f.first t ≡ true → f.more t ≡ false) → (found : List A) (ts : Tokens) → at_first f.first ts ≡ false → after found ((any f).parse ts) ≡ Read found ts
-row_done f ok off found ts first = ap (after found) (many_done f.grammar f.parse f.first f.more ok off ts first) ∙ ap (λ l. Read l ts) (append-nil found)
-
-pub row_stuck : {A : Type 0} (f : Form A) (ok : Exact f.grammar f.parse f.first f.more false) → ((t : Token) → f.first t ≡ true → f.more t ≡ false) → (found : List A) (ts rest : Tokens) → at_first f.first ts ≡ true → f.parse ts ≡ Stuck rest → after found ((any f).parse ts) ≡ Stuck rest
-row_stuck f ok off found ts rest first h =
-    ap (after found) (many_turn f.grammar f.parse f.first f.more ok off ts first ∙ ap (λ r. bind r (λ a rest. bind ((any f).parse rest) (λ others more. Read (a ∷ others) more))) h)
-
-pub block_reads : (d : ℕ) → (d ≡ 0 → ⊥) → (ts : Tokens) (at : ℕ) (r : Result (Block × ℕ) Refused) → Reads (P.block_over (P.expr (d - 1)) (P.block (d - 1))).parse ts at r → Reads (P.block d).parse ts at r
-block_reads zero some ts at r h = absurd (some refl)
-block_reads (suc d) some ts at r h =
+pub block_reads : (d : ℕ) → (d ≡ 0 → ⊥) → (ts : Tokens) (at past : ℕ) (r : Result (Block × ℕ) Refused) → Reads (P.block_over (P.expr (d - 1)) (P.block (d - 1))).parse ts at past r → Reads (P.block d).parse ts at past r
+block_reads zero some ts at past r h = absurd (some refl)
+block_reads (suc d) some ts at past r h =
     let e : suc d - 1 ≡ d = omega arith in
-    subst (λ k. Reads (P.block_over (P.expr k) (P.block k)).parse ts at r) e h
+    subst (λ k. Reads (P.block_over (P.expr k) (P.block k)).parse ts at past r) e h
 
 -- ---- records and iterators
 
@@ -125,7 +121,7 @@ iter_taken : (records : List RecordDecl) (iters : List Iter) (x : Iter) (r : Rea
 iter_taken records iters x (Read others rest) = ap (λ l. Read (record { records = records ++ P.records_of others; iters = l }) rest) (sym (append_assoc iters (x ∷ []) (P.iters_of others)))
 iter_taken records iters x (Stuck rest) = refl
 
-module _ (n : ℕ) (records : List RecordDecl) (iters : List Iter) (ts rest : Tokens) (first : at_first P.begins_decl ts ≡ true) where
+module _ (n : ℕ) (records : List RecordDecl) (iters : List Iter) (ts rest : Tokens) (first : at_first Sets.begins_decl ts ≡ true) where
   abbrev decl : Form P.Decl
   decl = P.decl_over (P.block n)
 
@@ -143,15 +139,3 @@ module _ (n : ℕ) (records : List RecordDecl) (iters : List Iter) (ts rest : To
       decl_turn (Read (P.an_iter x) rest) (iter_first (P.block n) ts is ∙ ap (λ r. bind r (λ a left. Read (P.an_iter a) left)) h)
       ∙ iter_taken records iters x ((any decl).parse rest)
 
-  pub record_stuck : at_first (is_keyword W.Record) ts ≡ true → P.record_decl.parse ts ≡ Stuck rest → program_after records iters ((any decl).parse ts) ≡ Stuck rest
-  record_stuck is h = decl_turn (Stuck rest) (record_first (P.block n) ts is ∙ ap (λ r. bind r (λ a left. Read (P.a_record a) left)) h)
-
-  pub iter_stuck : at_first (is_keyword W.Record) ts ≡ false → (P.iter_over (P.block n)).parse ts ≡ Stuck rest → program_after records iters ((any decl).parse ts) ≡ Stuck rest
-  iter_stuck is h = decl_turn (Stuck rest) (iter_first (P.block n) ts is ∙ ap (λ r. bind r (λ a left. Read (P.an_iter a) left)) h)
-
-pub program_done : (n : ℕ) (records : List RecordDecl) (iters : List Iter) (ts : Tokens) → at_first P.begins_decl ts ≡ false → program_after records iters ((any (P.decl_over (P.block n))).parse ts) ≡ Read (record { records = records; iters = iters }) ts
-program_done n records iters ts first =
-    let decl = P.decl_over (P.block n) in
-    ap (program_after records iters) (many_done decl.grammar decl.parse decl.first decl.more (decl_ok n) (λ t h. refl) ts first)
-    ∙ ap (λ l. Read (record { records = l; iters = iters ++ [] }) ts) (append-nil records)
-    ∙ ap (λ l. Read (record { records = records; iters = l }) ts) (append-nil iters)

@@ -4,10 +4,10 @@ use Rattle.std.proofs.Common.{◌≡◌, ℕ, ◌+◌, ◌<◌, ◌≤◌, zero,
 use Rattle.std.proofs.lemmas.Grind.{common_steps}
 use Rattle.iter_syntax.specs.declared.token.Token.{Token}
 use Rattle.iter_syntax.specs.declared.tree.Program.{Program}
-use Rattle.iter_syntax.specs.Form.{Read, Stuck}
+use Rattle.iter_syntax.specs.Steps.Parsers.{Read, Stuck}
 use Rattle.iter_syntax.specs.Productions.{program}
 use Rattle.iter_syntax.specs.Program.{IsProgram, StopsAt}
-use Rattle.iter_syntax.proofs.Grammar.Exact.{Tokens}
+use Rattle.iter_syntax.proofs.Grammar.Splits.{Tokens}
 use Rattle.iter_syntax.proofs.Grammar.Stops.{Stops, Answers, answers}
 use Rattle.iter_syntax.proofs.Grammar.ExactDecl.{program_ok}
 use Rattle.iter_syntax.proofs.Grammar.Deeper.{program_like}

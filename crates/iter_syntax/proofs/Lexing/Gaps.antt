@@ -6,7 +6,7 @@ use Rattle.std.proofs.lemmas.Bool.Decides.{nat_tests}
 use Rattle.std.proofs.lemmas.Bool.{eqb-true}
 use Rattle.iter_syntax.specs.Bytes.{is_separator}
 use Rattle.iter_syntax.specs.Spelling.{first_is}
-use Rattle.iter_syntax.specs.Reading.{gap_len}
+use Rattle.iter_syntax.specs.Steps.Reading.{gap_len}
 use Rattle.iter_syntax.specs.Tokens.{in_line, IsGap, nothing, separator, comment, last_comment, begins_gap}
 
 append_nil : (xs : List ℕ) → xs ++ [] ≡ xs

@@ -14,7 +14,7 @@ use Rattle.std.proofs.lemmas.Str.Parse.{digit_from_value}
 use Rattle.std.proofs.lemmas.Slice.Eq.{starts_is}
 use Rattle.iter_syntax.specs.Bytes.{in_run}
 use Rattle.iter_syntax.specs.Spelling.{is_numeral, numeral, number_of, first_is}
-use Rattle.iter_syntax.specs.Reading.{then_numeral, numeral_from, read_numeral, read_number}
+use Rattle.iter_syntax.specs.Steps.Reading.{then_numeral, numeral_from, read_numeral, read_number}
 
 -- more digits write no smaller number
 grows : (radix n : ℕ) (ds : List ℕ) → 1 ≤ radix → n ≤ digits_value_after radix n ds

@@ -11,8 +11,9 @@ use Rattle.iter_syntax.specs.declared.token.TokenKind.{TokenKind}
 use Rattle.iter_syntax.specs.declared.token.TokenKind.TheVariants as T
 use Rattle.iter_syntax.specs.declared.tokens.front.Front.{Front}
 use Rattle.iter_syntax.specs.Spelling.{keyword_text, symbol_text, Spells, first_is}
-use Rattle.iter_syntax.specs.Reading.{gap_len, front_token}
-use Rattle.iter_syntax.specs.Tokens.{IsGap, BeginsWith, Leads, begins_gap, NoToken, IsLexPlace, HasOneReading}
+use Rattle.iter_syntax.specs.Steps.Reading.{gap_len, front_token}
+use Rattle.iter_syntax.specs.Tokens.{IsGap, BeginsWith, Leads, begins_gap, NoToken, IsLexPlace}
+use Rattle.iter_syntax.specs.Steps.Reading.{HasOneReading}
 use Rattle.iter_syntax.proofs.Lexing.Prefixes.{first_append, first_some}
 use Rattle.iter_syntax.proofs.Lexing.Symbols.{symbol_length}
 use Rattle.iter_syntax.proofs.Lexing.Numbers.{number_runs}

@@ -15,7 +15,7 @@ use Rattle.iter_syntax.specs.declared.token.TokenKind.TheVariants as T
 use Rattle.iter_syntax.specs.declared.tokens.front.Front.{Front}
 use Rattle.iter_syntax.specs.Bytes.{in_word, in_run}
 use Rattle.iter_syntax.specs.Spelling.{keyword_text, keyword_of, symbol_text, symbol_of, is_word, number_of, Spells, first_is, goes_on_as_symbol, Ends}
-use Rattle.iter_syntax.specs.Reading.{named, word_kind, front_word, numbered, front_number, marked, longer, front_symbol, read_number, front_token}
+use Rattle.iter_syntax.specs.Steps.Reading.{named, word_kind, front_word, numbered, front_number, marked, longer, front_symbol, read_number, front_token}
 use Rattle.iter_syntax.proofs.Lexing.Prefixes.{prefix_passes, prefix_stops, prefix_whole, first_kept, first_some, first_append}
 use Rattle.iter_syntax.proofs.Lexing.Symbols.{Begins, symbol_begins, symbol_taken, symbol_own, symbol_length, symbol_first}
 use Rattle.iter_syntax.proofs.Lexing.Numbers.{number_is, number_runs}

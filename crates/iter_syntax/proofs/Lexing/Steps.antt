@@ -6,8 +6,8 @@ use Rattle.std.specs.Prelude.{Option, IfSome}
 use Rattle.iter_syntax.specs.declared.token.Token.{Token}
 use Rattle.iter_syntax.specs.declared.tokens.front.Front.{Front}
 use Rattle.iter_syntax.specs.Spelling.{first_is}
-use Rattle.iter_syntax.specs.Reading.{gap_len, front_token, HasRead}
-use Rattle.iter_syntax.specs.Tokens.{IsGap, BeginsWith, Leads, AreTokens, begins_gap, IsLexPlace}
+use Rattle.iter_syntax.specs.Steps.Reading.{gap_len, front_token, HasRead}
+use Rattle.iter_syntax.specs.Tokens.{IsGap, BeginsWith, Leads, begins_gap, IsLexPlace}
 use Rattle.iter_syntax.proofs.Lexing.Reading.{Fronts, fronts, token_read}
 use Rattle.iter_syntax.proofs.Lexing.Gaps.{gap_found}
 
@@ -76,12 +76,6 @@ read_lex text found here h l n = record {
   no_gap = h.no_gap;
   no_token = λ p k after b. let e : Some (record { kind = k; len = length p }) ≡ None = sym (token_read p after k b.spells b.ends) ∙ ap front_token (sym b.splits) ∙ n in cc;
 }
-
-pub read_all : (text : List ℕ) (found : List Token) (here : ℕ) → HasRead text found here → length text ≤ here → AreTokens text found
-read_all text found here h l =
-    let stop : here ≡ length text = omega (arith, h.inside) in
-    let rest : drop here text ≡ [] = nothing_left _ (omega (arith, length-drop here text)) in
-    subst (λ r. Leads 0 text found (length text) r) rest (subst (λ n. Leads 0 text found n (drop here text)) stop h.leads)
 
 -- the steps as the code takes them, which reads the text from `here` on as a slice
 

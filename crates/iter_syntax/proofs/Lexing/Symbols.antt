@@ -6,7 +6,7 @@ use Rattle.std.proofs.lemmas.Slice.Eq.{bytes_eq-Decides}
 use Rattle.iter_syntax.specs.declared.token.Symbol.{Symbol}
 use Rattle.iter_syntax.specs.declared.token.Symbol.TheVariants as S
 use Rattle.iter_syntax.specs.Spelling.{symbol_text, symbols, symbol_of, first_is, goes_on_as_symbol}
-use Rattle.iter_syntax.specs.Reading.{longer}
+use Rattle.iter_syntax.specs.Steps.Reading.{longer}
 
 found_at : {X : Type 0} (f : X → Bool) (y : X) (ys : List X) (x : X) (b : Bool) → f y ≡ b → (find f ys ≡ Some x → f x ≡ true) → cond b (Some y) (find f ys) ≡ Some x → f x ≡ true
 found_at f y ys x true h r q = let e : y ≡ x = cc in ap f (sym e) ∙ h
@@ -25,105 +25,15 @@ symbol_found p s q = (bytes_eq-Decides (symbol_text s) p).0 (find_passes (λ t. 
 pub symbol_own : (s : Symbol) → symbol_of (symbol_text s) ≡ Some s
 unfolding symbol_of
 symbol_own S.Range = refl
-symbol_own S.EqualEqual = refl
-symbol_own S.NotEqual = refl
-symbol_own S.LessEqual = refl
-symbol_own S.GreaterEqual = refl
-symbol_own S.ShiftLeft = refl
-symbol_own S.ShiftRight = refl
-symbol_own S.AndAnd = refl
-symbol_own S.OrOr = refl
-symbol_own S.OpenBrace = refl
-symbol_own S.CloseBrace = refl
-symbol_own S.OpenRound = refl
-symbol_own S.CloseRound = refl
-symbol_own S.OpenSquare = refl
-symbol_own S.CloseSquare = refl
-symbol_own S.Colon = refl
-symbol_own S.Semicolon = refl
-symbol_own S.Comma = refl
-symbol_own S.Dot = refl
-symbol_own S.Assign = refl
-symbol_own S.Less = refl
-symbol_own S.Greater = refl
-symbol_own S.Plus = refl
-symbol_own S.Minus = refl
-symbol_own S.Star = refl
-symbol_own S.Slash = refl
-symbol_own S.Percent = refl
-symbol_own S.And = refl
-symbol_own S.Or = refl
-symbol_own S.Caret = refl
-symbol_own S.Bang = refl
-symbol_own S.Tilde = refl
+symbol_own s = refl
 
 pub symbol_length : (s : Symbol) → (0 < length (symbol_text s)) × (length (symbol_text s) ≤ 2)
 symbol_length S.Range = (lit< tt, lit≤ tt)
-symbol_length S.EqualEqual = (lit< tt, lit≤ tt)
-symbol_length S.NotEqual = (lit< tt, lit≤ tt)
-symbol_length S.LessEqual = (lit< tt, lit≤ tt)
-symbol_length S.GreaterEqual = (lit< tt, lit≤ tt)
-symbol_length S.ShiftLeft = (lit< tt, lit≤ tt)
-symbol_length S.ShiftRight = (lit< tt, lit≤ tt)
-symbol_length S.AndAnd = (lit< tt, lit≤ tt)
-symbol_length S.OrOr = (lit< tt, lit≤ tt)
-symbol_length S.OpenBrace = (lit< tt, lit≤ tt)
-symbol_length S.CloseBrace = (lit< tt, lit≤ tt)
-symbol_length S.OpenRound = (lit< tt, lit≤ tt)
-symbol_length S.CloseRound = (lit< tt, lit≤ tt)
-symbol_length S.OpenSquare = (lit< tt, lit≤ tt)
-symbol_length S.CloseSquare = (lit< tt, lit≤ tt)
-symbol_length S.Colon = (lit< tt, lit≤ tt)
-symbol_length S.Semicolon = (lit< tt, lit≤ tt)
-symbol_length S.Comma = (lit< tt, lit≤ tt)
-symbol_length S.Dot = (lit< tt, lit≤ tt)
-symbol_length S.Assign = (lit< tt, lit≤ tt)
-symbol_length S.Less = (lit< tt, lit≤ tt)
-symbol_length S.Greater = (lit< tt, lit≤ tt)
-symbol_length S.Plus = (lit< tt, lit≤ tt)
-symbol_length S.Minus = (lit< tt, lit≤ tt)
-symbol_length S.Star = (lit< tt, lit≤ tt)
-symbol_length S.Slash = (lit< tt, lit≤ tt)
-symbol_length S.Percent = (lit< tt, lit≤ tt)
-symbol_length S.And = (lit< tt, lit≤ tt)
-symbol_length S.Or = (lit< tt, lit≤ tt)
-symbol_length S.Caret = (lit< tt, lit≤ tt)
-symbol_length S.Bang = (lit< tt, lit≤ tt)
-symbol_length S.Tilde = (lit< tt, lit≤ tt)
+symbol_length s = (lit< tt, lit≤ tt)
 
 pub symbol_first : (s : Symbol) (after : List ℕ) → (first_is is_ascii_lowercase (symbol_text s ++ after) ≡ false) × (first_is is_ascii_digit (symbol_text s ++ after) ≡ false)
 symbol_first S.Range after = (refl, refl)
-symbol_first S.EqualEqual after = (refl, refl)
-symbol_first S.NotEqual after = (refl, refl)
-symbol_first S.LessEqual after = (refl, refl)
-symbol_first S.GreaterEqual after = (refl, refl)
-symbol_first S.ShiftLeft after = (refl, refl)
-symbol_first S.ShiftRight after = (refl, refl)
-symbol_first S.AndAnd after = (refl, refl)
-symbol_first S.OrOr after = (refl, refl)
-symbol_first S.OpenBrace after = (refl, refl)
-symbol_first S.CloseBrace after = (refl, refl)
-symbol_first S.OpenRound after = (refl, refl)
-symbol_first S.CloseRound after = (refl, refl)
-symbol_first S.OpenSquare after = (refl, refl)
-symbol_first S.CloseSquare after = (refl, refl)
-symbol_first S.Colon after = (refl, refl)
-symbol_first S.Semicolon after = (refl, refl)
-symbol_first S.Comma after = (refl, refl)
-symbol_first S.Dot after = (refl, refl)
-symbol_first S.Assign after = (refl, refl)
-symbol_first S.Less after = (refl, refl)
-symbol_first S.Greater after = (refl, refl)
-symbol_first S.Plus after = (refl, refl)
-symbol_first S.Minus after = (refl, refl)
-symbol_first S.Star after = (refl, refl)
-symbol_first S.Slash after = (refl, refl)
-symbol_first S.Percent after = (refl, refl)
-symbol_first S.And after = (refl, refl)
-symbol_first S.Or after = (refl, refl)
-symbol_first S.Caret after = (refl, refl)
-symbol_first S.Bang after = (refl, refl)
-symbol_first S.Tilde after = (refl, refl)
+symbol_first s after = (refl, refl)
 
 no_symbol : (p : List ℕ) (o : Option Symbol) → symbol_of p ≡ o → 2 < length p → o ≡ None
 no_symbol p None e h = refl

@@ -19,75 +19,15 @@ keyword_found p k q = (bytes_eq-Decides (keyword_text k) p).0 (find_passes (λ t
 pub keyword_own : (k : Keyword) → keyword_of (keyword_text k) ≡ Some k
 unfolding keyword_of
 keyword_own K.Record = refl
-keyword_own K.Iter = refl
-keyword_own K.On = refl
-keyword_own K.Pad = refl
-keyword_own K.Init = refl
-keyword_own K.End = refl
-keyword_own K.Let = refl
-keyword_own K.If = refl
-keyword_own K.Else = refl
-keyword_own K.For = refl
-keyword_own K.In = refl
-keyword_own K.Done = refl
-keyword_own K.Go = refl
-keyword_own K.Cur = refl
-keyword_own K.Null = refl
-keyword_own K.At = refl
-keyword_own K.Int = refl
-keyword_own K.Ptr = refl
-keyword_own K.U8 = refl
-keyword_own K.U16 = refl
-keyword_own K.U32 = refl
-keyword_own K.U64 = refl
+keyword_own k = refl
 
 pub keyword_word : (k : Keyword) → is_word (keyword_text k) ≡ true
 keyword_word K.Record = refl
-keyword_word K.Iter = refl
-keyword_word K.On = refl
-keyword_word K.Pad = refl
-keyword_word K.Init = refl
-keyword_word K.End = refl
-keyword_word K.Let = refl
-keyword_word K.If = refl
-keyword_word K.Else = refl
-keyword_word K.For = refl
-keyword_word K.In = refl
-keyword_word K.Done = refl
-keyword_word K.Go = refl
-keyword_word K.Cur = refl
-keyword_word K.Null = refl
-keyword_word K.At = refl
-keyword_word K.Int = refl
-keyword_word K.Ptr = refl
-keyword_word K.U8 = refl
-keyword_word K.U16 = refl
-keyword_word K.U32 = refl
-keyword_word K.U64 = refl
+keyword_word k = refl
 
 pub keyword_length : (k : Keyword) → length (keyword_text k) ≤ 32
 keyword_length K.Record = omega arith
-keyword_length K.Iter = omega arith
-keyword_length K.On = omega arith
-keyword_length K.Pad = omega arith
-keyword_length K.Init = omega arith
-keyword_length K.End = omega arith
-keyword_length K.Let = omega arith
-keyword_length K.If = omega arith
-keyword_length K.Else = omega arith
-keyword_length K.For = omega arith
-keyword_length K.In = omega arith
-keyword_length K.Done = omega arith
-keyword_length K.Go = omega arith
-keyword_length K.Cur = omega arith
-keyword_length K.Null = omega arith
-keyword_length K.At = omega arith
-keyword_length K.Int = omega arith
-keyword_length K.Ptr = omega arith
-keyword_length K.U8 = omega arith
-keyword_length K.U16 = omega arith
-keyword_length K.U32 = omega arith
-keyword_length K.U64 = omega arith
+keyword_length k = omega arith
 
 pub small_goes_on : (b : ℕ) → is_ascii_lowercase b ≡ true → in_word b ≡ true
 small_goes_on b h = rw h

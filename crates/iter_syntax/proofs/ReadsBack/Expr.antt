@@ -12,7 +12,8 @@ use Rattle.iter_syntax.specs.declared.token.Symbol.TheVariants as S
 use Rattle.iter_syntax.specs.Tree.{Ex, num, null, name, cur, cur_field, cur_item, pad_field, pad_item, not, flip, bin, at, used, cur_use, pad_use}
 use Rattle.iter_syntax.specs.Form.{Form}
 use Rattle.iter_syntax.specs.Productions as P
-use Rattle.iter_syntax.specs.Printed.{Kinds, key, sym as kind, word, between, level_of_operator, symbol_of_operator, left_level, right_level, level_of, in_parentheses, expr_kinds}
+use Rattle.iter_syntax.specs.Printed.{Kinds, key, sym as kind, word, between, left_level, right_level, level_of, in_parentheses, expr_kinds}
+use Rattle.iter_syntax.specs.Operators.{level_of_operator, symbol_of_operator}
 use Rattle.iter_syntax.specs.Bare.{nowhere, bare_word, bare_expr}
 use Rattle.iter_syntax.proofs.ExprLaws.{ex_num, ex_null, ex_name, ex_cur, ex_cur_field, ex_pad_field, ex_not, ex_flip, ex_binary, ex_at}
 use Rattle.iter_syntax.proofs.ReadsBack.Forms.{Back, join_back, pair_back, value_back, either_left, either_right, none_back, some_back, symbol_back, keyword_back, word_back, number_back, brackets_back, same_kinds, Deep, deep_map, deep_both, deep_next}

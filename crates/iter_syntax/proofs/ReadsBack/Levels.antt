@@ -7,12 +7,14 @@ use Rattle.iter_syntax.specs.declared.tree.BinaryOp.TheVariants as B
 use Rattle.iter_syntax.specs.declared.tree.Expr.{Expr}
 use Rattle.iter_syntax.specs.declared.tree.Expr.TheVariants as E
 use Rattle.iter_syntax.specs.declared.token.Token.{Token}
-use Rattle.iter_syntax.specs.Kinds.{is_operator, has_level, symbol_operator, kind_operator}
+use Rattle.iter_syntax.specs.Kinds.{is_operator, has_level, kind_operator}
+use Rattle.iter_syntax.specs.Operators.{symbol_operator}
 use Rattle.iter_syntax.specs.Tree.{Ex, bin}
 use Rattle.iter_syntax.specs.Grammar.{Grammar, pair, row}
 use Rattle.iter_syntax.specs.Form.{Form}
 use Rattle.iter_syntax.specs.Productions as P
-use Rattle.iter_syntax.specs.Printed.{Kinds, sym as kind, level_of_operator, symbol_of_operator, left_level, right_level, level_of}
+use Rattle.iter_syntax.specs.Printed.{Kinds, sym as kind, left_level, right_level, level_of}
+use Rattle.iter_syntax.specs.Operators.{level_of_operator, symbol_of_operator}
 use Rattle.iter_syntax.proofs.ReadsBack.Forms.{Back, token_back, wider_back}
 
 -- ---- levels
@@ -44,7 +46,7 @@ looser (suc n) m h u {ks = ks} {Q = Q} b = elim (le-suc_iff.0 h) [
 
 -- ---- operators
 
-operator_found : (op : BinaryOp) → symbol_operator (symbol_of_operator op) ≡ Some (level_of_operator op, op)
+operator_found : (op : BinaryOp) → symbol_operator (symbol_of_operator op) ≡ Some op
 operator_found B.Mul = refl
 operator_found op = refl
 

@@ -98,23 +98,23 @@ module _ (f : Form Expr) (b : Form Block) where
   target_kinds k w o e = gets (key k ∷ kind S.Dot ∷ use_kinds w o) e
 
   abbrev TargetAt : Keyword → Word → Option Ex → Ex → Type 0
-  TargetAt k w o e = Back (P.target_over k f).grammar (target_kinds k w o e) (λ x. Unit {0} × (Unit {0} × (IsUse w o x.1.1.0 × (Unit {0} × (IsExpr e x.1.1.1.1.0 × Unit {0})))))
+  TargetAt k w o e = Back (P.target_over k f).grammar (target_kinds k w o e) (λ x. IsUse w o x.1 × IsExpr e x.2)
 
   target_at : (k : Keyword) (w : Word) (o : Option Ex) (e : Ex) → UseAt f w o → ExprAt f e → TargetAt k w o e
   target_at k w o e h g =
       same_kinds (ap (λ l. key k ∷ kind S.Dot ∷ l) (gets_splits (use_kinds w o) e))
-      (pair_back (keyword_back k) (pair_back (symbol_back S.Dot) (pair_back h (given_at e g))))
+      (value_back P.to_target (λ x q. (q.1.1.0, q.1.1.1.1.0)) (pair_back (keyword_back k) (pair_back (symbol_back S.Dot) (pair_back h (given_at e g)))))
 
   pub pad_row : (p : Place) (w : Word) (o : Option Ex) (e : Ex) (rest : Sts) → UseAt f w o → ExprAt f e → StmtsAt rest → RowAt (target_kinds W.Pad w o e) (to_pad p w o e rest) rest
   pad_row p w o e rest h g r =
       row_at (to_pad p w o e rest) rest (either_right (either_right (either_left
-      (value_back P.to_set_pad (λ x q others s. cc (st_set_pad x.0 x.1.1.0 x.1.1.1.1.0 others, bare_pad x.0 (used x.1.1.0).0 (used x.1.1.0).1 (ex x.1.1.1.1.0) others, bare_pad p w o e rest))
+      (value_back P.to_set_pad (λ x q others s. cc (st_set_pad x.0 x.1 x.2 others, bare_pad x.0 (used x.1).0 (used x.1).1 (ex x.2) others, bare_pad p w o e rest))
       (target_at W.Pad w o e h g))))) r
 
   pub cur_row : (p : Place) (w : Word) (o : Option Ex) (e : Ex) (rest : Sts) → UseAt f w o → ExprAt f e → StmtsAt rest → RowAt (target_kinds W.Cur w o e) (to_cur p w o e rest) rest
   cur_row p w o e rest h g r =
       row_at (to_cur p w o e rest) rest (either_right (either_right (either_right (either_left
-      (value_back P.to_set_cur (λ x q others s. cc (st_set_cur x.0 x.1.1.0 x.1.1.1.1.0 others, bare_cur x.0 (used x.1.1.0).0 (used x.1.1.0).1 (ex x.1.1.1.1.0) others, bare_cur p w o e rest))
+      (value_back P.to_set_cur (λ x q others s. cc (st_set_cur x.0 x.1 x.2 others, bare_cur x.0 (used x.1).0 (used x.1).1 (ex x.2) others, bare_cur p w o e rest))
       (target_at W.Cur w o e h g)))))) r
 
   if_row : (p : Place) (t : Ex) (first : Sts) (o : Option Sts) (rest : Sts) (ks : Kinds) → key W.If ∷ (expr_kinds t ++ (braces (stmt_kinds first) ++ else_kinds o)) ≡ ks

@@ -1,5 +1,5 @@
 -- The printed tokens of what tokens are a whole expression of are these tokens without some parentheses.
-use Rattle.std.proofs.Common.{◌≡◌, ℕ, zero, suc, ◌≤◌, List, ◌∷◌, Option, Some, None, option_map, refl, sym, ap, ◌∙◌, subst, inl, inr, arith}
+use Rattle.std.proofs.Common.{◌≡◌, ℕ, zero, suc, List, ◌∷◌, Option, Some, None, option_map, refl, sym, ap, ◌∙◌, subst, inl, inr, arith}
 use Rattle.iter_syntax.specs.declared.token.Token.{Token}
 use Rattle.iter_syntax.specs.declared.token.Keyword.TheVariants as W
 use Rattle.iter_syntax.specs.declared.token.Symbol.TheVariants as S
@@ -144,5 +144,3 @@ unary_trims (suc d) = unary_over_trims (P.unary d) (unary_trims d)
 pub expr_prints : (d : ℕ) → AllPrint (P.expr d).grammar (λ x. expr_kinds (ex x))
 expr_prints d = prints_expr (P.expr d).grammar (level_trims 7 (P.unary d) (unary_trims d))
 
-pub expr_trims : (d level : ℕ) → level ≤ 7 → (ts : List Token) (x : Expr) → (P.level level (P.unary d)).grammar.whole ts x → TrimsExpr level ts x
-expr_trims d level h ts x w = (level_trims level (P.unary d) (unary_trims d)).all ts x w

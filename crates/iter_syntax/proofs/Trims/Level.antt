@@ -10,7 +10,8 @@ use Rattle.iter_syntax.specs.Tree.{ex}
 use Rattle.iter_syntax.specs.Grammar.{Grammar, pair, row, many, optional, whole_or_nothing}
 use Rattle.iter_syntax.specs.Form.{Form}
 use Rattle.iter_syntax.specs.Productions as P
-use Rattle.iter_syntax.specs.Printed.{Kinds, sym as kind, between, level_of_operator, symbol_of_operator, left_level, right_level, level_of, in_parentheses, expr_kinds}
+use Rattle.iter_syntax.specs.Printed.{Kinds, sym as kind, between, left_level, right_level, level_of, in_parentheses, expr_kinds}
+use Rattle.iter_syntax.specs.Operators.{level_of_operator, symbol_of_operator}
 use Rattle.iter_syntax.proofs.TokenKinds.{kinds}
 use Rattle.iter_syntax.proofs.Trims.{Trims, trims_join, trims_bare}
 use Rattle.iter_syntax.proofs.Trims.Scan.{Closed, closed_join, closed_round}

@@ -9,7 +9,8 @@ use Rattle.iter_syntax.specs.Deep.{depth_after}
 use Rattle.iter_syntax.specs.Kinds.{is_keyword, is_symbol, is_name, is_next, is_number, is_operator}
 use Rattle.iter_syntax.specs.Grammar.{Grammar, token, pair, value, row, many, optional, either}
 use Rattle.iter_syntax.specs.Productions as P
-use Rattle.iter_syntax.specs.Printed.{Kinds, key, sym as kind, word, between, next_word, symbol_of_operator}
+use Rattle.iter_syntax.specs.Printed.{Kinds, key, sym as kind, word, between, next_word}
+use Rattle.iter_syntax.specs.Operators.{symbol_of_operator}
 use Rattle.iter_syntax.proofs.TokenKinds.{kinds, kinds-append}
 use Rattle.iter_syntax.proofs.Trims.{Trims, trims_same, trims_join}
 use Rattle.iter_syntax.proofs.Trims.Scan.{Closed, closed_none, closed_token, closed_join}

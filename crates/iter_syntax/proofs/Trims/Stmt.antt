@@ -88,9 +88,10 @@ prints_set e h =
     prints_value P.to_set _ _ _ (λ x. ap stmt_kinds (st_set x.0.place x.0 x.1.1.0 end) ∙ gets_is (word x.0 ∷ []) (ex x.1.1.0))
     (prints_pair _ _ _ _ prints_word (prints_given e h))
 
-prints_target : (k : Keyword) (e : Form Expr) → ExprPrints e → AllPrint (P.target_over k e).grammar (λ x. key k ∷ kind S.Dot ∷ (use_kinds (used x.1.1.0) ++ given (ex x.1.1.1.1.0)))
+prints_target : (k : Keyword) (e : Form Expr) → ExprPrints e → AllPrint (P.target_over k e).grammar (λ x. key k ∷ kind S.Dot ∷ (use_kinds (used x.1) ++ given (ex x.2)))
 prints_target k e h =
-    prints_pair _ _ _ _ (prints_keyword k) (prints_pair _ _ _ _ (prints_symbol S.Dot (λ n. refl)) (prints_pair _ _ (λ u. use_kinds (used u)) _ (prints_use e h) (prints_given e h)))
+    prints_value P.to_target _ _ _ (λ x. refl)
+    (prints_pair _ _ _ _ (prints_keyword k) (prints_pair _ _ _ _ (prints_symbol S.Dot (λ n. refl)) (prints_pair _ _ (λ u. use_kinds (used u)) _ (prints_use e h) (prints_given e h))))
 
 pad_kinds : (p : Place) (w : Word) (i : Option Ex) (e : Ex) → stmt_kinds (to_pad p w i e end) ≡ key W.Pad ∷ kind S.Dot ∷ (use_kinds (w, i) ++ given e)
 pad_kinds p w None e = gets_is (key W.Pad ∷ kind S.Dot ∷ word w ∷ []) e
@@ -102,12 +103,12 @@ cur_kinds p w (Some i) e = gets_is (key W.Cur ∷ kind S.Dot ∷ item w i) e
 
 prints_set_pad : (e : Form Expr) → ExprPrints e → AllPrint (P.set_pad_over e).grammar alone_kinds
 prints_set_pad e h =
-    prints_value P.to_set_pad _ _ _ (λ x. ap stmt_kinds (st_set_pad x.0 x.1.1.0 x.1.1.1.1.0 end) ∙ pad_kinds x.0 (used x.1.1.0).0 (used x.1.1.0).1 (ex x.1.1.1.1.0))
+    prints_value P.to_set_pad _ _ _ (λ x. ap stmt_kinds (st_set_pad x.0 x.1 x.2 end) ∙ pad_kinds x.0 (used x.1).0 (used x.1).1 (ex x.2))
     (prints_target W.Pad e h)
 
 prints_set_cur : (e : Form Expr) → ExprPrints e → AllPrint (P.set_cur_over e).grammar alone_kinds
 prints_set_cur e h =
-    prints_value P.to_set_cur _ _ _ (λ x. ap stmt_kinds (st_set_cur x.0 x.1.1.0 x.1.1.1.1.0 end) ∙ cur_kinds x.0 (used x.1.1.0).0 (used x.1.1.0).1 (ex x.1.1.1.1.0))
+    prints_value P.to_set_cur _ _ _ (λ x. ap stmt_kinds (st_set_cur x.0 x.1 x.2 end) ∙ cur_kinds x.0 (used x.1).0 (used x.1).1 (ex x.2))
     (prints_target W.Cur e h)
 
 -- what stands behind `else`

@@ -1,11 +1,13 @@
 // Records, iterators and programs.
 
-ghost use Rattle.std.specs.Prelude.{◌≡◌, ◌≤◌, ◌<◌, ◌+◌, drop, length, IsTrue, IfOk};
-ghost use Rattle.iter_syntax.specs.Form.{at_first, any};
+ghost use Rattle.std.specs.Prelude.{◌≡◌, ◌≤◌, ◌<◌, ◌+◌, drop, length, IsTrue};
+ghost use Rattle.iter_syntax.specs.Form.{any};
+ghost use Rattle.iter_syntax.specs.Steps.Parsers.{at_first};
 ghost use Rattle.iter_syntax.specs.Productions as P;
-ghost use Rattle.iter_syntax.specs.Reads.{Reads, args_rest};
+ghost use Rattle.iter_syntax.specs.Steps.Sets;
+ghost use Rattle.iter_syntax.specs.Steps.Reads.{Finds, Reads, args_rest};
 
-use super::reader::{Class, Refused, put, read_number, read_place, read_word, stands};
+use super::reader::{Class, Refused, expect, put, read_number, read_word, stands};
 use super::stmt::read_block;
 use crate::token::{Keyword, Symbol, Token, TokenKind};
 use crate::tree::{Arg, Args, FieldDecl, Fields, Iter, Program, RecordDecl, Width};
@@ -15,23 +17,18 @@ use std::alloc::Global;
 /// The name of a width.
 fn read_width(tokens: &[Token], at: usize) -> Result<(Width, usize), Refused>
     requires { at ≤ length tokens.now }
-    ensures reads { Reads P.width.parse tokens.now at result }
-    ensures moves { IfOk result (λ x. at + 1 ≤ x.1) }
+    ensures { Finds P.width.parse tokens.now at (at + 1) result }
 {
-    if stands(tokens, at, Class::Keyword(Keyword::U8)) {
-        let (_, at) = read_place(tokens, at, Class::Keyword(Keyword::U8))?;
+    if let Ok((_, at)) = expect(tokens, at, Class::Keyword(Keyword::U8)) {
         Ok((Width::U8, at))
-    } else if stands(tokens, at, Class::Keyword(Keyword::U16)) {
-        let (_, at) = read_place(tokens, at, Class::Keyword(Keyword::U16))?;
+    } else if let Ok((_, at)) = expect(tokens, at, Class::Keyword(Keyword::U16)) {
         Ok((Width::U16, at))
-    } else if stands(tokens, at, Class::Keyword(Keyword::U32)) {
-        let (_, at) = read_place(tokens, at, Class::Keyword(Keyword::U32))?;
+    } else if let Ok((_, at)) = expect(tokens, at, Class::Keyword(Keyword::U32)) {
         Ok((Width::U32, at))
-    } else if stands(tokens, at, Class::Keyword(Keyword::U64)) {
-        let (_, at) = read_place(tokens, at, Class::Keyword(Keyword::U64))?;
+    } else if let Ok((_, at)) = expect(tokens, at, Class::Keyword(Keyword::U64)) {
         Ok((Width::U64, at))
     } else {
-        let (_, at) = read_place(tokens, at, Class::Keyword(Keyword::Ptr))?;
+        let (_, at) = expect(tokens, at, Class::Keyword(Keyword::Ptr))?;
         Ok((Width::Ptr, at))
     }
 }
@@ -39,15 +36,13 @@ fn read_width(tokens: &[Token], at: usize) -> Result<(Width, usize), Refused>
 /// A width, or a width and a length in square brackets.
 fn read_type(tokens: &[Token], at: usize) -> Result<((Width, Option<u64>), usize), Refused>
     requires { at ≤ length tokens.now }
-    ensures reads { Reads P.field_type.parse tokens.now at result }
-    ensures moves { IfOk result (λ x. at + 1 ≤ x.1) }
+    ensures { Finds P.field_type.parse tokens.now at (at + 1) result }
 {
-    if stands(tokens, at, Class::Symbol(Symbol::OpenSquare)) {
-        let (_, at) = read_place(tokens, at, Class::Symbol(Symbol::OpenSquare))?;
+    if let Ok((_, at)) = expect(tokens, at, Class::Symbol(Symbol::OpenSquare)) {
         let (width, at) = read_width(tokens, at)?;
-        let (_, at) = read_place(tokens, at, Class::Symbol(Symbol::Semicolon))?;
+        let (_, at) = expect(tokens, at, Class::Symbol(Symbol::Semicolon))?;
         let ((_, len), at) = read_number(tokens, at)?;
-        let (_, at) = read_place(tokens, at, Class::Symbol(Symbol::CloseSquare))?;
+        let (_, at) = expect(tokens, at, Class::Symbol(Symbol::CloseSquare))?;
         Ok(((width, Some(len)), at))
     } else {
         let (width, at) = read_width(tokens, at)?;
@@ -58,21 +53,19 @@ fn read_type(tokens: &[Token], at: usize) -> Result<((Width, Option<u64>), usize
 /// One field.
 fn read_field(tokens: &[Token], at: usize) -> Result<(FieldDecl, usize), Refused>
     requires { at ≤ length tokens.now }
-    ensures reads { Reads P.field.parse tokens.now at result }
-    ensures moves { IfOk result (λ x. at + 1 ≤ x.1) }
+    ensures { Finds P.field.parse tokens.now at (at + 1) result }
 {
     let (name, at) = read_word(tokens, at)?;
-    let (_, at) = read_place(tokens, at, Class::Symbol(Symbol::Colon))?;
+    let (_, at) = expect(tokens, at, Class::Symbol(Symbol::Colon))?;
     let ((width, len), at) = read_type(tokens, at)?;
-    let (_, at) = read_place(tokens, at, Class::Symbol(Symbol::Semicolon))?;
+    let (_, at) = expect(tokens, at, Class::Symbol(Symbol::Semicolon))?;
     Ok((FieldDecl { name, width, len }, at))
 }
 
 /// Fields as long as one begins.
 fn read_row(alloc: Global, tokens: &[Token], at: usize) -> Result<(Fields, usize), Refused>
     requires { at ≤ length tokens.now }
-    ensures reads { Reads (any P.field).parse tokens.now at result }
-    ensures moves { IfOk result (λ x. at ≤ x.1) }
+    ensures { Reads (any P.field).parse tokens.now at at result }
 {
     let mut found = Listed::new(alloc);
     let mut at = at;
@@ -91,22 +84,20 @@ fn read_row(alloc: Global, tokens: &[Token], at: usize) -> Result<(Fields, usize
 /// Fields in braces.
 fn read_fields(alloc: Global, tokens: &[Token], at: usize) -> Result<(Fields, usize), Refused>
     requires { at ≤ length tokens.now }
-    ensures reads { Reads P.fields.parse tokens.now at result }
-    ensures moves { IfOk result (λ x. at + 1 ≤ x.1) }
+    ensures { Reads P.fields.parse tokens.now at (at + 1) result }
 {
-    let (_, at) = read_place(tokens, at, Class::Symbol(Symbol::OpenBrace))?;
+    let (_, at) = expect(tokens, at, Class::Symbol(Symbol::OpenBrace))?;
     let (found, at) = read_row(alloc, tokens, at)?;
-    let (_, at) = read_place(tokens, at, Class::Symbol(Symbol::CloseBrace))?;
+    let (_, at) = expect(tokens, at, Class::Symbol(Symbol::CloseBrace))?;
     Ok((found, at))
 }
 
 /// `record name { fields }`
 fn read_record(alloc: Global, tokens: &[Token], at: usize) -> Result<(RecordDecl, usize), Refused>
     requires { at ≤ length tokens.now }
-    ensures reads { Reads P.record_decl.parse tokens.now at result }
-    ensures moves { IfOk result (λ x. at + 1 ≤ x.1) }
+    ensures { Reads P.record_decl.parse tokens.now at (at + 1) result }
 {
-    let (place, at) = read_place(tokens, at, Class::Keyword(Keyword::Record))?;
+    let (place, at) = expect(tokens, at, Class::Keyword(Keyword::Record))?;
     let (name, at) = read_word(tokens, at)?;
     let (fields, at) = read_fields(alloc, tokens, at)?;
     Ok((
@@ -122,14 +113,12 @@ fn read_record(alloc: Global, tokens: &[Token], at: usize) -> Result<(RecordDecl
 /// Whether an argument is a pointer.
 fn read_kind(tokens: &[Token], at: usize) -> Result<(bool, usize), Refused>
     requires { at ≤ length tokens.now }
-    ensures reads { Reads P.arg_kind.parse tokens.now at result }
-    ensures moves { IfOk result (λ x. at + 1 ≤ x.1) }
+    ensures { Finds P.arg_kind.parse tokens.now at (at + 1) result }
 {
-    if stands(tokens, at, Class::Keyword(Keyword::Int)) {
-        let (_, at) = read_place(tokens, at, Class::Keyword(Keyword::Int))?;
+    if let Ok((_, at)) = expect(tokens, at, Class::Keyword(Keyword::Int)) {
         Ok((false, at))
     } else {
-        let (_, at) = read_place(tokens, at, Class::Keyword(Keyword::Ptr))?;
+        let (_, at) = expect(tokens, at, Class::Keyword(Keyword::Ptr))?;
         Ok((true, at))
     }
 }
@@ -137,11 +126,10 @@ fn read_kind(tokens: &[Token], at: usize) -> Result<(bool, usize), Refused>
 /// One argument.
 fn read_arg(tokens: &[Token], at: usize) -> Result<(Arg, usize), Refused>
     requires { at ≤ length tokens.now }
-    ensures reads { Reads P.arg.parse tokens.now at result }
-    ensures moves { IfOk result (λ x. at + 1 ≤ x.1) }
+    ensures { Finds P.arg.parse tokens.now at (at + 1) result }
 {
     let (name, at) = read_word(tokens, at)?;
-    let (_, at) = read_place(tokens, at, Class::Symbol(Symbol::Colon))?;
+    let (_, at) = expect(tokens, at, Class::Symbol(Symbol::Colon))?;
     let (pointer, at) = read_kind(tokens, at)?;
     Ok((Arg { name, pointer }, at))
 }
@@ -149,10 +137,9 @@ fn read_arg(tokens: &[Token], at: usize) -> Result<(Arg, usize), Refused>
 /// A comma and one argument.
 fn read_more_arg(tokens: &[Token], at: usize) -> Result<(Arg, usize), Refused>
     requires { at ≤ length tokens.now }
-    ensures reads { Reads P.more_arg.parse tokens.now at result }
-    ensures moves { IfOk result (λ x. at + 1 ≤ x.1) }
+    ensures { Finds P.more_arg.parse tokens.now at (at + 1) result }
 {
-    let (_, at) = read_place(tokens, at, Class::Symbol(Symbol::Comma))?;
+    let (_, at) = expect(tokens, at, Class::Symbol(Symbol::Comma))?;
     let (arg, at) = read_arg(tokens, at)?;
     Ok((arg, at))
 }
@@ -165,8 +152,7 @@ fn read_args_from(
     first: Arg,
 ) -> Result<(Args, usize), Refused>
     requires { at ≤ length tokens.now }
-    ensures reads { Reads (args_rest first) tokens.now at result }
-    ensures moves { IfOk result (λ x. at ≤ x.1) }
+    ensures { Reads (args_rest first) tokens.now at at result }
 {
     let mut found = Listed::new(alloc);
     put(&mut found, first)?;
@@ -186,8 +172,7 @@ fn read_args_from(
 /// Arguments with commas between them, or none.
 fn read_row_of_args(alloc: Global, tokens: &[Token], at: usize) -> Result<(Args, usize), Refused>
     requires { at ≤ length tokens.now }
-    ensures reads { Reads P.row_of_args.parse tokens.now at result }
-    ensures moves { IfOk result (λ x. at ≤ x.1) }
+    ensures { Reads P.row_of_args.parse tokens.now at at result }
 {
     if stands(tokens, at, Class::Name) {
         let (first, at) = read_arg(tokens, at)?;
@@ -200,12 +185,11 @@ fn read_row_of_args(alloc: Global, tokens: &[Token], at: usize) -> Result<(Args,
 /// Arguments in parentheses.
 fn read_args(alloc: Global, tokens: &[Token], at: usize) -> Result<(Args, usize), Refused>
     requires { at ≤ length tokens.now }
-    ensures reads { Reads P.args.parse tokens.now at result }
-    ensures moves { IfOk result (λ x. at + 1 ≤ x.1) }
+    ensures { Reads P.args.parse tokens.now at (at + 1) result }
 {
-    let (_, at) = read_place(tokens, at, Class::Symbol(Symbol::OpenRound))?;
+    let (_, at) = expect(tokens, at, Class::Symbol(Symbol::OpenRound))?;
     let (found, at) = read_row_of_args(alloc, tokens, at)?;
-    let (_, at) = read_place(tokens, at, Class::Symbol(Symbol::CloseRound))?;
+    let (_, at) = expect(tokens, at, Class::Symbol(Symbol::CloseRound))?;
     Ok((found, at))
 }
 
@@ -217,24 +201,23 @@ fn read_iter(
     depth: usize,
 ) -> Result<(Iter, usize), Refused>
     requires { at ≤ length tokens.now }
-    ensures reads { Reads (P.iter_over (P.block depth)).parse tokens.now at result }
-    ensures moves { IfOk result (λ x. at + 1 ≤ x.1) }
+    ensures { Reads (P.iter_over (P.block depth)).parse tokens.now at (at + 1) result }
 {
-    let (place, at) = read_place(tokens, at, Class::Keyword(Keyword::Iter))?;
+    let (place, at) = expect(tokens, at, Class::Keyword(Keyword::Iter))?;
     let (name, at) = read_word(tokens, at)?;
-    let (_, at) = read_place(tokens, at, Class::Keyword(Keyword::On))?;
+    let (_, at) = expect(tokens, at, Class::Keyword(Keyword::On))?;
     let (on, at) = read_word(tokens, at)?;
-    let (_, at) = read_place(tokens, at, Class::Symbol(Symbol::OpenBrace))?;
-    let (_, at) = read_place(tokens, at, Class::Keyword(Keyword::Pad))?;
+    let (_, at) = expect(tokens, at, Class::Symbol(Symbol::OpenBrace))?;
+    let (_, at) = expect(tokens, at, Class::Keyword(Keyword::Pad))?;
     let (pad, at) = read_fields(alloc, tokens, at)?;
-    let (_, at) = read_place(tokens, at, Class::Keyword(Keyword::Init))?;
+    let (_, at) = expect(tokens, at, Class::Keyword(Keyword::Init))?;
     let (args, at) = read_args(alloc, tokens, at)?;
     let (init_part, at) = read_block(alloc, tokens, at, depth)?;
-    let (_, at) = read_place(tokens, at, Class::Keyword(Keyword::End))?;
+    let (_, at) = expect(tokens, at, Class::Keyword(Keyword::End))?;
     let (end_part, at) = read_block(alloc, tokens, at, depth)?;
-    let (_, at) = read_place(tokens, at, Class::Next)?;
+    let (_, at) = expect(tokens, at, Class::Next)?;
     let (next_part, at) = read_block(alloc, tokens, at, depth)?;
-    let (_, at) = read_place(tokens, at, Class::Symbol(Symbol::CloseBrace))?;
+    let (_, at) = expect(tokens, at, Class::Symbol(Symbol::CloseBrace))?;
     let found = Iter {
         place,
         name,
@@ -249,7 +232,7 @@ fn read_iter(
 }
 
 fn begins_decl(kind: &TokenKind) -> bool
-    ensures { result ≡ P.kind_begins_decl kind.now }
+    ensures { result ≡ Sets.kind_begins_decl kind.now }
 {
     match kind {
         TokenKind::Keyword(keyword) => keyword_begins_decl(*keyword),
@@ -258,7 +241,7 @@ fn begins_decl(kind: &TokenKind) -> bool
 }
 
 fn keyword_begins_decl(keyword: Keyword) -> bool
-    ensures { result ≡ P.keyword_begins_decl keyword }
+    ensures { result ≡ Sets.keyword_begins_decl keyword }
 {
     match keyword {
         Keyword::Record | Keyword::Iter => true,
@@ -269,7 +252,7 @@ fn keyword_begins_decl(keyword: Keyword) -> bool
 /// Whether a record or an iterator may begin with the token at a place.
 fn decl_stands(tokens: &[Token], at: usize) -> bool
     requires { at ≤ length tokens.now }
-    ensures first { result ≡ at_first P.begins_decl (drop at tokens.now) }
+    ensures first { result ≡ at_first Sets.begins_decl (drop at tokens.now) }
     ensures inside { IsTrue result → at < length tokens.now }
 {
     at < tokens.len() && begins_decl(&tokens[at].kind)
@@ -283,8 +266,7 @@ pub(crate) fn read_program(
     depth: usize,
 ) -> Result<(Program, usize), Refused>
     requires { at ≤ length tokens.now }
-    ensures reads { Reads (P.program depth).parse tokens.now at result }
-    ensures moves { IfOk result (λ x. at ≤ x.1) }
+    ensures { Reads (P.program depth).parse tokens.now at at result }
 {
     let mut records = Listed::new(alloc);
     let mut iters = Listed::new(alloc);

@@ -1,12 +1,13 @@
 // Expressions: the binary levels, unary operators, and what stands between them.
 
-ghost use Rattle.std.specs.Prelude.{◌≡◌, ◌≤◌, ◌<◌, ◌+◌, ◌-◌, drop, length, IsTrue, IfOk, IfErr};
-ghost use Rattle.iter_syntax.specs.Kinds.{symbol_operator as operator_of, kind_operator, is_operator};
-ghost use Rattle.iter_syntax.specs.Form.{at_first, maybe};
+ghost use Rattle.std.specs.Prelude.{◌≡◌, ◌≤◌, ◌<◌, ◌+◌, ◌-◌, drop, length, is_ok, IfOk, IfErr};
+ghost use Rattle.iter_syntax.specs.Kinds.{kind_operator, is_operator};
+ghost use Rattle.iter_syntax.specs.Form.{maybe};
+ghost use Rattle.iter_syntax.specs.Steps.Parsers.{at_first};
 ghost use Rattle.iter_syntax.specs.Productions as P;
-ghost use Rattle.iter_syntax.specs.Reads.{Reads, comparison_rest, chain_rest};
+ghost use Rattle.iter_syntax.specs.Steps.Reads.{Finds, Reads, comparison_rest, chain_rest};
 
-use super::reader::{Class, Refused, boxed, read_number, read_place, read_word, stands};
+use super::reader::{Class, Refused, boxed, expect, read_number, read_word, stands};
 use crate::token::{Keyword, Symbol, Token, TokenKind};
 use crate::tree::{BinaryOp, Expr, FieldUse, Place};
 use sqlite_items::Boxed;
@@ -18,53 +19,14 @@ const LOOSEST: usize = 7;
 /// The level of the comparisons, of which one may stand.
 const COMPARISON: usize = 5;
 
-/// The operator that a token is, with its level, from 1, the tightest.
-fn operator(kind: &TokenKind) -> Option<(usize, BinaryOp)>
+/// The operator that a token is.
+fn operator(kind: &TokenKind) -> Option<BinaryOp>
     ensures { result ≡ kind_operator kind.now }
 {
     match kind {
-        TokenKind::Symbol(symbol) => symbol_operator(*symbol),
+        TokenKind::Symbol(symbol) => BinaryOp::of_symbol(*symbol),
         _ => None,
     }
-}
-
-fn symbol_operator(symbol: Symbol) -> Option<(usize, BinaryOp)>
-    ensures { result ≡ operator_of symbol }
-{
-    match symbol {
-        Symbol::Star => Some((1, BinaryOp::Mul)),
-        Symbol::Slash => Some((1, BinaryOp::Div)),
-        Symbol::Percent => Some((1, BinaryOp::Mod)),
-        Symbol::Plus => Some((2, BinaryOp::Add)),
-        Symbol::Minus => Some((2, BinaryOp::Sub)),
-        Symbol::ShiftLeft => Some((3, BinaryOp::Shl)),
-        Symbol::ShiftRight => Some((3, BinaryOp::Shr)),
-        Symbol::And => Some((4, BinaryOp::BitAnd)),
-        Symbol::Or => Some((4, BinaryOp::BitOr)),
-        Symbol::Caret => Some((4, BinaryOp::BitXor)),
-        Symbol::EqualEqual => Some((5, BinaryOp::Eq)),
-        Symbol::NotEqual => Some((5, BinaryOp::Ne)),
-        Symbol::Less => Some((5, BinaryOp::Lt)),
-        Symbol::LessEqual => Some((5, BinaryOp::Le)),
-        Symbol::Greater => Some((5, BinaryOp::Gt)),
-        Symbol::GreaterEqual => Some((5, BinaryOp::Ge)),
-        Symbol::AndAnd => Some((6, BinaryOp::And)),
-        Symbol::OrOr => Some((7, BinaryOp::Or)),
-        _ => None,
-    }
-}
-
-/// Whether an operator of this level stands at a place.
-fn operator_stands(tokens: &[Token], at: usize, level: usize) -> bool
-    requires { at ≤ length tokens.now }
-    ensures first { result ≡ at_first (is_operator level) (drop at tokens.now) }
-    ensures inside { IsTrue result → at < length tokens.now }
-{
-    at < tokens.len()
-        && match operator(&tokens[at].kind) {
-            Some((found, _)) => found == level,
-            None => false,
-        }
 }
 
 /// The operator of this level that stands here, with its place.
@@ -74,15 +36,15 @@ fn read_operator(
     level: usize,
 ) -> Result<((Place, BinaryOp), usize), Refused>
     requires { at ≤ length tokens.now }
-    ensures reads { Reads (P.operator level).parse tokens.now at result }
-    ensures moves { IfOk result (λ x. x.1 ≡ at + 1) }
+    ensures finds { Finds (P.operator level).parse tokens.now at (at + 1) result }
+    ensures first { is_ok result ≡ at_first (is_operator level) (drop at tokens.now) }
 {
     if at >= tokens.len() {
         return Err(Refused::At(at));
     }
     match operator(&tokens[at].kind) {
-        Some((found, op)) => {
-            if found == level {
+        Some(op) => {
+            if op.level() == level {
                 Ok(((tokens[at].place, op), at + 1))
             } else {
                 Err(Refused::At(at))
@@ -120,8 +82,7 @@ pub(crate) fn read_expr(
     depth: usize,
 ) -> Result<(Expr, usize), Refused>
     requires { at ≤ length tokens.now }
-    ensures reads { Reads (P.expr depth).parse tokens.now at result }
-    ensures moves { IfOk result (λ x. at + 1 ≤ x.1) }
+    ensures { Reads (P.expr depth).parse tokens.now at (at + 1) result }
 {
     read_level(alloc, tokens, at, LOOSEST, depth)
 }
@@ -136,8 +97,7 @@ fn read_level(
     depth: usize,
 ) -> Result<(Expr, usize), Refused>
     requires { at ≤ length tokens.now }
-    ensures reads { Reads (P.level level (P.unary depth)).parse tokens.now at result }
-    ensures moves { IfOk result (λ x. at + 1 ≤ x.1) }
+    ensures { Reads (P.level level (P.unary depth)).parse tokens.now at (at + 1) result }
 {
     if level == 0 {
         return read_unary(alloc, tokens, at, depth);
@@ -164,11 +124,9 @@ fn read_comparison(
     depth: usize,
 ) -> Result<(Expr, usize), Refused>
     requires { at ≤ length tokens.now }
-    ensures reads { Reads (comparison_rest first (P.level 4 (P.unary depth))) tokens.now at result }
-    ensures moves { IfOk result (λ x. at ≤ x.1) }
+    ensures { Reads (comparison_rest first (P.level 4 (P.unary depth))) tokens.now at at result }
 {
-    if operator_stands(tokens, at, COMPARISON) {
-        let (operator, at) = read_operator(tokens, at, COMPARISON)?;
+    if let Ok((operator, at)) = read_operator(tokens, at, COMPARISON) {
         let (right, at) = read_level(alloc, tokens, at, COMPARISON - 1, depth)?;
         let whole = binary(alloc, operator, first, right)?;
         Ok((whole, at))
@@ -189,13 +147,11 @@ fn read_row(
 ) -> Result<(Expr, usize), Refused>
     requires at { at ≤ length tokens.now }
     requires level { 1 ≤ level }
-    ensures reads { Reads (chain_rest level first (P.level (level - 1) (P.unary depth))) tokens.now at result }
-    ensures moves { IfOk result (λ x. at ≤ x.1) }
+    ensures { Reads (chain_rest level first (P.level (level - 1) (P.unary depth))) tokens.now at at result }
 {
     let mut left = first;
     let mut at = at;
-    'row: while operator_stands(tokens, at, level) {
-        let (operator, next) = read_operator(tokens, at, level)?;
+    'row: while let Ok((operator, next)) = read_operator(tokens, at, level) {
         match read_level(alloc, tokens, next, level - 1, depth) {
             Ok((right, next)) => {
                 left = binary(alloc, operator, left, right)?;
@@ -216,8 +172,7 @@ fn read_unary(
     depth: usize,
 ) -> Result<(Expr, usize), Refused>
     requires { at ≤ length tokens.now }
-    ensures reads { Reads (P.unary depth).parse tokens.now at result }
-    ensures moves { IfOk result (λ x. at + 1 ≤ x.1) }
+    ensures { Reads (P.unary depth).parse tokens.now at (at + 1) result }
 {
     if depth == 0 {
         return Err(Refused::At(at));
@@ -234,16 +189,13 @@ fn read_operand(
     depth: usize,
 ) -> Result<(Expr, usize), Refused>
     requires { at ≤ length tokens.now }
-    ensures reads { Reads (P.unary_over (P.unary depth)).parse tokens.now at result }
-    ensures moves { IfOk result (λ x. at + 1 ≤ x.1) }
+    ensures { Reads (P.unary_over (P.unary depth)).parse tokens.now at (at + 1) result }
 {
-    if stands(tokens, at, Class::Symbol(Symbol::Bang)) {
-        let (place, at) = read_place(tokens, at, Class::Symbol(Symbol::Bang))?;
+    if let Ok((place, at)) = expect(tokens, at, Class::Symbol(Symbol::Bang)) {
         let (of, at) = read_unary(alloc, tokens, at, depth)?;
         let of = boxed(alloc, of)?;
         Ok((Expr::Not { place, of }, at))
-    } else if stands(tokens, at, Class::Symbol(Symbol::Tilde)) {
-        let (place, at) = read_place(tokens, at, Class::Symbol(Symbol::Tilde))?;
+    } else if let Ok((place, at)) = expect(tokens, at, Class::Symbol(Symbol::Tilde)) {
         let (of, at) = read_unary(alloc, tokens, at, depth)?;
         let of = boxed(alloc, of)?;
         Ok((Expr::Flip { place, of }, at))
@@ -260,14 +212,12 @@ fn read_atom(
     depth: usize,
 ) -> Result<(Expr, usize), Refused>
     requires { at ≤ length tokens.now }
-    ensures reads { Reads (P.atom_over (P.expr depth)).parse tokens.now at result }
-    ensures moves { IfOk result (λ x. at + 1 ≤ x.1) }
+    ensures { Reads (P.atom_over (P.expr depth)).parse tokens.now at (at + 1) result }
 {
     if stands(tokens, at, Class::Number) {
         let ((place, value), at) = read_number(tokens, at)?;
         Ok((Expr::Num { place, value }, at))
-    } else if stands(tokens, at, Class::Keyword(Keyword::Null)) {
-        let (place, at) = read_place(tokens, at, Class::Keyword(Keyword::Null))?;
+    } else if let Ok((place, at)) = expect(tokens, at, Class::Keyword(Keyword::Null)) {
         Ok((Expr::Null { place }, at))
     } else if stands(tokens, at, Class::Name) {
         let (name, at) = read_word(tokens, at)?;
@@ -279,9 +229,9 @@ fn read_atom(
     } else if stands(tokens, at, Class::Keyword(Keyword::At)) {
         read_sum(alloc, tokens, at, depth)
     } else {
-        let (_, at) = read_place(tokens, at, Class::Symbol(Symbol::OpenRound))?;
+        let (_, at) = expect(tokens, at, Class::Symbol(Symbol::OpenRound))?;
         let (inner, at) = read_level(alloc, tokens, at, LOOSEST, depth)?;
-        let (_, at) = read_place(tokens, at, Class::Symbol(Symbol::CloseRound))?;
+        let (_, at) = expect(tokens, at, Class::Symbol(Symbol::CloseRound))?;
         Ok((inner, at))
     }
 }
@@ -295,12 +245,10 @@ fn read_cur(
     depth: usize,
 ) -> Result<(Expr, usize), Refused>
     requires { at ≤ length tokens.now }
-    ensures reads { Reads (P.cur_over (P.expr depth)).parse tokens.now at result }
-    ensures moves { IfOk result (λ x. at + 1 ≤ x.1) }
+    ensures { Reads (P.cur_over (P.expr depth)).parse tokens.now at (at + 1) result }
 {
-    let (place, at) = read_place(tokens, at, Class::Keyword(Keyword::Cur))?;
-    if stands(tokens, at, Class::Symbol(Symbol::Dot)) {
-        let (_, at) = read_place(tokens, at, Class::Symbol(Symbol::Dot))?;
+    let (place, at) = expect(tokens, at, Class::Keyword(Keyword::Cur))?;
+    if let Ok((_, at)) = expect(tokens, at, Class::Symbol(Symbol::Dot)) {
         let (field, at) = read_use(alloc, tokens, at, depth)?;
         Ok((Expr::CurField { place, field }, at))
     } else {
@@ -317,11 +265,10 @@ fn read_pad(
     depth: usize,
 ) -> Result<(Expr, usize), Refused>
     requires { at ≤ length tokens.now }
-    ensures reads { Reads (P.pad_over (P.expr depth)).parse tokens.now at result }
-    ensures moves { IfOk result (λ x. at + 1 ≤ x.1) }
+    ensures { Reads (P.pad_over (P.expr depth)).parse tokens.now at (at + 1) result }
 {
-    let (place, at) = read_place(tokens, at, Class::Keyword(Keyword::Pad))?;
-    let (_, at) = read_place(tokens, at, Class::Symbol(Symbol::Dot))?;
+    let (place, at) = expect(tokens, at, Class::Keyword(Keyword::Pad))?;
+    let (_, at) = expect(tokens, at, Class::Symbol(Symbol::Dot))?;
     let (field, at) = read_use(alloc, tokens, at, depth)?;
     Ok((Expr::PadField { place, field }, at))
 }
@@ -335,15 +282,14 @@ fn read_sum(
     depth: usize,
 ) -> Result<(Expr, usize), Refused>
     requires { at ≤ length tokens.now }
-    ensures reads { Reads (P.at_over (P.expr depth)).parse tokens.now at result }
-    ensures moves { IfOk result (λ x. at + 1 ≤ x.1) }
+    ensures { Reads (P.at_over (P.expr depth)).parse tokens.now at (at + 1) result }
 {
-    let (place, at) = read_place(tokens, at, Class::Keyword(Keyword::At))?;
-    let (_, at) = read_place(tokens, at, Class::Symbol(Symbol::OpenRound))?;
+    let (place, at) = expect(tokens, at, Class::Keyword(Keyword::At))?;
+    let (_, at) = expect(tokens, at, Class::Symbol(Symbol::OpenRound))?;
     let (base, at) = read_level(alloc, tokens, at, LOOSEST, depth)?;
-    let (_, at) = read_place(tokens, at, Class::Symbol(Symbol::Comma))?;
+    let (_, at) = expect(tokens, at, Class::Symbol(Symbol::Comma))?;
     let (offset, at) = read_level(alloc, tokens, at, LOOSEST, depth)?;
-    let (_, at) = read_place(tokens, at, Class::Symbol(Symbol::CloseRound))?;
+    let (_, at) = expect(tokens, at, Class::Symbol(Symbol::CloseRound))?;
     let base = boxed(alloc, base)?;
     let offset = boxed(alloc, offset)?;
     Ok((
@@ -365,8 +311,7 @@ pub(crate) fn read_use(
     depth: usize,
 ) -> Result<(FieldUse, usize), Refused>
     requires { at ≤ length tokens.now }
-    ensures reads { Reads (P.field_use depth).parse tokens.now at result }
-    ensures moves { IfOk result (λ x. at + 1 ≤ x.1) }
+    ensures { Reads (P.field_use depth).parse tokens.now at (at + 1) result }
 {
     let (name, at) = read_word(tokens, at)?;
     let (index, at) = read_index(alloc, tokens, at, depth)?;
@@ -382,13 +327,11 @@ fn read_index(
     depth: usize,
 ) -> Result<(Option<Boxed<Expr>>, usize), Refused>
     requires { at ≤ length tokens.now }
-    ensures reads { Reads (maybe (P.brackets Symbol.OpenSquare (P.expr depth) Symbol.CloseSquare)).parse tokens.now at result }
-    ensures moves { IfOk result (λ x. at ≤ x.1) }
+    ensures { Reads (maybe (P.brackets Symbol.OpenSquare (P.expr depth) Symbol.CloseSquare)).parse tokens.now at at result }
 {
-    if stands(tokens, at, Class::Symbol(Symbol::OpenSquare)) {
-        let (_, at) = read_place(tokens, at, Class::Symbol(Symbol::OpenSquare))?;
+    if let Ok((_, at)) = expect(tokens, at, Class::Symbol(Symbol::OpenSquare)) {
         let (index, at) = read_level(alloc, tokens, at, LOOSEST, depth)?;
-        let (_, at) = read_place(tokens, at, Class::Symbol(Symbol::CloseSquare))?;
+        let (_, at) = expect(tokens, at, Class::Symbol(Symbol::CloseSquare))?;
         let index = boxed(alloc, index)?;
         Ok((Some(index), at))
     } else {

@@ -1,10 +1,10 @@
 // One token at a place of the list: whether it stands there, and what it gives.
 
-ghost use Rattle.std.specs.Prelude.{◌≡◌, ◌≤◌, ◌<◌, ◌+◌, [], ◌∷◌, ◌++◌, drop, length, nat_eq, IsTrue, IfOk, IfErr, OnOk};
+ghost use Rattle.std.specs.Prelude.{◌≡◌, ◌≤◌, ◌<◌, ◌+◌, [], ◌∷◌, ◌++◌, drop, length, nat_eq, IsTrue, is_ok, IfOk, IfErr, OnOk};
 ghost use Rattle.iter_syntax.specs.Kinds.{keyword_number, symbol_number, is_next_text};
-ghost use Rattle.iter_syntax.specs.Form.{at_first};
+ghost use Rattle.iter_syntax.specs.Steps.Parsers.{at_first};
 ghost use Rattle.iter_syntax.specs.Productions.{word, number};
-ghost use Rattle.iter_syntax.specs.Reads.{Reads, in_class, of_class};
+ghost use Rattle.iter_syntax.specs.Steps.Reads.{Finds, in_class, of_class};
 
 use crate::token::{Keyword, Symbol, Token, TokenKind};
 use crate::tree::{Expr, Place, Word};
@@ -72,14 +72,10 @@ pub(crate) fn stands(tokens: &[Token], at: usize, class: Class) -> bool
 }
 
 /// The place of the token of this class that stands here.
-pub(crate) fn read_place(
-    tokens: &[Token],
-    at: usize,
-    class: Class,
-) -> Result<(Place, usize), Refused>
+pub(crate) fn expect(tokens: &[Token], at: usize, class: Class) -> Result<(Place, usize), Refused>
     requires { at ≤ length tokens.now }
-    ensures reads { Reads (of_class class).parse tokens.now at result }
-    ensures moves { IfOk result (λ x. x.1 ≡ at + 1) }
+    ensures finds { Finds (of_class class).parse tokens.now at (at + 1) result }
+    ensures first { is_ok result ≡ at_first (in_class class) (drop at tokens.now) }
 {
     if stands(tokens, at, class) {
         Ok((tokens[at].place, at + 1))
@@ -99,8 +95,7 @@ fn copied(text: &[u8]) -> ArrayVec<u8, 32>
 
 pub(crate) fn read_word(tokens: &[Token], at: usize) -> Result<(Word, usize), Refused>
     requires { at ≤ length tokens.now }
-    ensures reads { Reads word.parse tokens.now at result }
-    ensures moves { IfOk result (λ x. x.1 ≡ at + 1) }
+    ensures { Finds word.parse tokens.now at (at + 1) result }
 {
     if at >= tokens.len() {
         return Err(Refused::At(at));
@@ -124,8 +119,7 @@ pub(crate) fn read_word(tokens: &[Token], at: usize) -> Result<(Word, usize), Re
 /// The place and the value of a number.
 pub(crate) fn read_number(tokens: &[Token], at: usize) -> Result<((Place, u64), usize), Refused>
     requires { at ≤ length tokens.now }
-    ensures reads { Reads number.parse tokens.now at result }
-    ensures moves { IfOk result (λ x. x.1 ≡ at + 1) }
+    ensures { Finds number.parse tokens.now at (at + 1) result }
 {
     if at >= tokens.len() {
         return Err(Refused::At(at));

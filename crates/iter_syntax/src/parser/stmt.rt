@@ -1,19 +1,21 @@
 // Blocks and statements.
 
-ghost use Rattle.std.specs.Prelude.{◌≡◌, ◌≤◌, ◌<◌, ◌+◌, drop, length, IsTrue, IfOk};
-ghost use Rattle.iter_syntax.specs.Form.{at_first, any};
+ghost use Rattle.std.specs.Prelude.{◌≡◌, ◌≤◌, ◌<◌, ◌+◌, drop, length, IsTrue};
+ghost use Rattle.iter_syntax.specs.Form.{any};
+ghost use Rattle.iter_syntax.specs.Steps.Parsers.{at_first};
 ghost use Rattle.iter_syntax.specs.Productions as P;
-ghost use Rattle.iter_syntax.specs.Reads.{Reads};
+ghost use Rattle.iter_syntax.specs.Steps.Sets;
+ghost use Rattle.iter_syntax.specs.Steps.Reads.{Finds, Reads};
 
 use super::expr::{read_expr, read_use};
-use super::reader::{Class, Refused, put, read_number, read_place, read_word, stands};
+use super::reader::{Class, Refused, expect, put, read_number, read_word, stands};
 use crate::token::{Keyword, Symbol, Token, TokenKind};
-use crate::tree::{Block, Stmt, Stmts};
+use crate::tree::{Block, Expr, FieldUse, Place, Stmt, Stmts};
 use pulse_base::Listed;
 use std::alloc::Global;
 
 fn begins_stmt(kind: &TokenKind) -> bool
-    ensures { result ≡ P.kind_begins_stmt kind.now }
+    ensures { result ≡ Sets.kind_begins_stmt kind.now }
 {
     match kind {
         TokenKind::Name(_) => true,
@@ -23,7 +25,7 @@ fn begins_stmt(kind: &TokenKind) -> bool
 }
 
 fn keyword_begins_stmt(keyword: Keyword) -> bool
-    ensures { result ≡ P.keyword_begins_stmt keyword }
+    ensures { result ≡ Sets.keyword_begins_stmt keyword }
 {
     match keyword {
         Keyword::Let
@@ -40,7 +42,7 @@ fn keyword_begins_stmt(keyword: Keyword) -> bool
 /// Whether a statement may begin with the token at a place.
 fn stmt_stands(tokens: &[Token], at: usize) -> bool
     requires { at ≤ length tokens.now }
-    ensures first { result ≡ at_first P.begins_stmt (drop at tokens.now) }
+    ensures first { result ≡ at_first Sets.begins_stmt (drop at tokens.now) }
     ensures inside { IsTrue result → at < length tokens.now }
 {
     at < tokens.len() && begins_stmt(&tokens[at].kind)
@@ -55,8 +57,7 @@ pub(crate) fn read_block(
     depth: usize,
 ) -> Result<(Block, usize), Refused>
     requires { at ≤ length tokens.now }
-    ensures reads { Reads (P.block depth).parse tokens.now at result }
-    ensures moves { IfOk result (λ x. at + 1 ≤ x.1) }
+    ensures { Reads (P.block depth).parse tokens.now at (at + 1) result }
 {
     if depth == 0 {
         return Err(Refused::At(at));
@@ -73,12 +74,11 @@ fn read_braces(
     depth: usize,
 ) -> Result<(Block, usize), Refused>
     requires { at ≤ length tokens.now }
-    ensures reads { Reads (P.block_over (P.expr depth) (P.block depth)).parse tokens.now at result }
-    ensures moves { IfOk result (λ x. at + 1 ≤ x.1) }
+    ensures { Reads (P.block_over (P.expr depth) (P.block depth)).parse tokens.now at (at + 1) result }
 {
-    let (place, at) = read_place(tokens, at, Class::Symbol(Symbol::OpenBrace))?;
+    let (place, at) = expect(tokens, at, Class::Symbol(Symbol::OpenBrace))?;
     let (stmts, at) = read_stmts(alloc, tokens, at, depth)?;
-    let (close, at) = read_place(tokens, at, Class::Symbol(Symbol::CloseBrace))?;
+    let (close, at) = expect(tokens, at, Class::Symbol(Symbol::CloseBrace))?;
     Ok((
         Block {
             place,
@@ -98,8 +98,7 @@ fn read_stmts(
     depth: usize,
 ) -> Result<(Stmts, usize), Refused>
     requires { at ≤ length tokens.now }
-    ensures reads { Reads (any (P.stmt depth)).parse tokens.now at result }
-    ensures moves { IfOk result (λ x. at ≤ x.1) }
+    ensures { Reads (any (P.stmt depth)).parse tokens.now at at result }
 {
     let mut found = Listed::new(alloc);
     let mut at = at;
@@ -124,17 +123,32 @@ fn read_stmt(
     depth: usize,
 ) -> Result<(Stmt, usize), Refused>
     requires { at ≤ length tokens.now }
-    ensures reads { Reads (P.stmt depth).parse tokens.now at result }
-    ensures moves { IfOk result (λ x. at + 1 ≤ x.1) }
+    ensures { Reads (P.stmt depth).parse tokens.now at (at + 1) result }
 {
     if stands(tokens, at, Class::Keyword(Keyword::Let)) {
         read_let(alloc, tokens, at, depth)
     } else if stands(tokens, at, Class::Name) {
         read_set(alloc, tokens, at, depth)
     } else if stands(tokens, at, Class::Keyword(Keyword::Pad)) {
-        read_set_pad(alloc, tokens, at, depth)
+        let ((place, target, value), at) = read_target(alloc, tokens, at, Keyword::Pad, depth)?;
+        Ok((
+            Stmt::SetPad {
+                place,
+                target,
+                value,
+            },
+            at,
+        ))
     } else if stands(tokens, at, Class::Keyword(Keyword::Cur)) {
-        read_set_cur(alloc, tokens, at, depth)
+        let ((place, target, value), at) = read_target(alloc, tokens, at, Keyword::Cur, depth)?;
+        Ok((
+            Stmt::SetCur {
+                place,
+                target,
+                value,
+            },
+            at,
+        ))
     } else if stands(tokens, at, Class::Keyword(Keyword::If)) {
         read_if(alloc, tokens, at, depth)
     } else if stands(tokens, at, Class::Keyword(Keyword::For)) {
@@ -154,14 +168,13 @@ fn read_let(
     depth: usize,
 ) -> Result<(Stmt, usize), Refused>
     requires { at ≤ length tokens.now }
-    ensures reads { Reads (P.let_over (P.expr depth)).parse tokens.now at result }
-    ensures moves { IfOk result (λ x. at + 1 ≤ x.1) }
+    ensures { Reads (P.let_over (P.expr depth)).parse tokens.now at (at + 1) result }
 {
-    let (place, at) = read_place(tokens, at, Class::Keyword(Keyword::Let))?;
+    let (place, at) = expect(tokens, at, Class::Keyword(Keyword::Let))?;
     let (name, at) = read_word(tokens, at)?;
-    let (_, at) = read_place(tokens, at, Class::Symbol(Symbol::Assign))?;
+    let (_, at) = expect(tokens, at, Class::Symbol(Symbol::Assign))?;
     let (value, at) = read_expr(alloc, tokens, at, depth)?;
-    let (_, at) = read_place(tokens, at, Class::Symbol(Symbol::Semicolon))?;
+    let (_, at) = expect(tokens, at, Class::Symbol(Symbol::Semicolon))?;
     Ok((Stmt::Let { place, name, value }, at))
 }
 
@@ -173,69 +186,34 @@ fn read_set(
     depth: usize,
 ) -> Result<(Stmt, usize), Refused>
     requires { at ≤ length tokens.now }
-    ensures reads { Reads (P.set_over (P.expr depth)).parse tokens.now at result }
-    ensures moves { IfOk result (λ x. at + 1 ≤ x.1) }
+    ensures { Reads (P.set_over (P.expr depth)).parse tokens.now at (at + 1) result }
 {
     let (name, at) = read_word(tokens, at)?;
-    let (_, at) = read_place(tokens, at, Class::Symbol(Symbol::Assign))?;
+    let (_, at) = expect(tokens, at, Class::Symbol(Symbol::Assign))?;
     let (value, at) = read_expr(alloc, tokens, at, depth)?;
-    let (_, at) = read_place(tokens, at, Class::Symbol(Symbol::Semicolon))?;
+    let (_, at) = expect(tokens, at, Class::Symbol(Symbol::Semicolon))?;
     let place = name.place;
     Ok((Stmt::Set { place, name, value }, at))
 }
 
-/// `pad . target = value ;`
-fn read_set_pad(
+/// `pad . target = value ;`, or the same of `cur`.
+fn read_target(
     alloc: Global,
     tokens: &[Token],
     at: usize,
+    owner: Keyword,
     depth: usize,
-) -> Result<(Stmt, usize), Refused>
+) -> Result<((Place, FieldUse, Expr), usize), Refused>
     requires { at ≤ length tokens.now }
-    ensures reads { Reads (P.set_pad_over (P.expr depth)).parse tokens.now at result }
-    ensures moves { IfOk result (λ x. at + 1 ≤ x.1) }
+    ensures { Reads (P.target_over owner (P.expr depth)).parse tokens.now at (at + 1) result }
 {
-    let (place, at) = read_place(tokens, at, Class::Keyword(Keyword::Pad))?;
-    let (_, at) = read_place(tokens, at, Class::Symbol(Symbol::Dot))?;
+    let (place, at) = expect(tokens, at, Class::Keyword(owner))?;
+    let (_, at) = expect(tokens, at, Class::Symbol(Symbol::Dot))?;
     let (target, at) = read_use(alloc, tokens, at, depth)?;
-    let (_, at) = read_place(tokens, at, Class::Symbol(Symbol::Assign))?;
+    let (_, at) = expect(tokens, at, Class::Symbol(Symbol::Assign))?;
     let (value, at) = read_expr(alloc, tokens, at, depth)?;
-    let (_, at) = read_place(tokens, at, Class::Symbol(Symbol::Semicolon))?;
-    Ok((
-        Stmt::SetPad {
-            place,
-            target,
-            value,
-        },
-        at,
-    ))
-}
-
-/// `cur . target = value ;`
-fn read_set_cur(
-    alloc: Global,
-    tokens: &[Token],
-    at: usize,
-    depth: usize,
-) -> Result<(Stmt, usize), Refused>
-    requires { at ≤ length tokens.now }
-    ensures reads { Reads (P.set_cur_over (P.expr depth)).parse tokens.now at result }
-    ensures moves { IfOk result (λ x. at + 1 ≤ x.1) }
-{
-    let (place, at) = read_place(tokens, at, Class::Keyword(Keyword::Cur))?;
-    let (_, at) = read_place(tokens, at, Class::Symbol(Symbol::Dot))?;
-    let (target, at) = read_use(alloc, tokens, at, depth)?;
-    let (_, at) = read_place(tokens, at, Class::Symbol(Symbol::Assign))?;
-    let (value, at) = read_expr(alloc, tokens, at, depth)?;
-    let (_, at) = read_place(tokens, at, Class::Symbol(Symbol::Semicolon))?;
-    Ok((
-        Stmt::SetCur {
-            place,
-            target,
-            value,
-        },
-        at,
-    ))
+    let (_, at) = expect(tokens, at, Class::Symbol(Symbol::Semicolon))?;
+    Ok(((place, target, value), at))
 }
 
 /// `if test yes`, or with `else no`.
@@ -247,10 +225,9 @@ fn read_if(
     depth: usize,
 ) -> Result<(Stmt, usize), Refused>
     requires { at ≤ length tokens.now }
-    ensures reads { Reads (P.if_over (P.expr depth) (P.block depth)).parse tokens.now at result }
-    ensures moves { IfOk result (λ x. at + 1 ≤ x.1) }
+    ensures { Reads (P.if_over (P.expr depth) (P.block depth)).parse tokens.now at (at + 1) result }
 {
-    let (place, at) = read_place(tokens, at, Class::Keyword(Keyword::If))?;
+    let (place, at) = expect(tokens, at, Class::Keyword(Keyword::If))?;
     let (test, at) = read_expr(alloc, tokens, at, depth)?;
     let (yes, at) = read_block(alloc, tokens, at, depth)?;
     let (no, at) = read_else(alloc, tokens, at, depth)?;
@@ -274,11 +251,9 @@ fn read_else(
     depth: usize,
 ) -> Result<(Option<Block>, usize), Refused>
     requires { at ≤ length tokens.now }
-    ensures reads { Reads (P.else_over (P.block depth)).parse tokens.now at result }
-    ensures moves { IfOk result (λ x. at ≤ x.1) }
+    ensures { Reads (P.else_over (P.block depth)).parse tokens.now at at result }
 {
-    if stands(tokens, at, Class::Keyword(Keyword::Else)) {
-        let (_, at) = read_place(tokens, at, Class::Keyword(Keyword::Else))?;
+    if let Ok((_, at)) = expect(tokens, at, Class::Keyword(Keyword::Else)) {
         let (no, at) = read_block(alloc, tokens, at, depth)?;
         Ok((Some(no), at))
     } else {
@@ -295,14 +270,13 @@ fn read_for(
     depth: usize,
 ) -> Result<(Stmt, usize), Refused>
     requires { at ≤ length tokens.now }
-    ensures reads { Reads (P.for_over (P.block depth)).parse tokens.now at result }
-    ensures moves { IfOk result (λ x. at + 1 ≤ x.1) }
+    ensures { Reads (P.for_over (P.block depth)).parse tokens.now at (at + 1) result }
 {
-    let (place, at) = read_place(tokens, at, Class::Keyword(Keyword::For))?;
+    let (place, at) = expect(tokens, at, Class::Keyword(Keyword::For))?;
     let (name, at) = read_word(tokens, at)?;
-    let (_, at) = read_place(tokens, at, Class::Keyword(Keyword::In))?;
+    let (_, at) = expect(tokens, at, Class::Keyword(Keyword::In))?;
     let ((_, first), at) = read_number(tokens, at)?;
-    let (_, at) = read_place(tokens, at, Class::Symbol(Symbol::Range))?;
+    let (_, at) = expect(tokens, at, Class::Symbol(Symbol::Range))?;
     let ((_, past), at) = read_number(tokens, at)?;
     let (body, at) = read_block(alloc, tokens, at, depth)?;
     Ok((
@@ -320,11 +294,10 @@ fn read_for(
 /// `done ;`
 fn read_done(tokens: &[Token], at: usize) -> Result<(Stmt, usize), Refused>
     requires { at ≤ length tokens.now }
-    ensures reads { Reads P.done_stmt.parse tokens.now at result }
-    ensures moves { IfOk result (λ x. at + 1 ≤ x.1) }
+    ensures { Finds P.done_stmt.parse tokens.now at (at + 1) result }
 {
-    let (place, at) = read_place(tokens, at, Class::Keyword(Keyword::Done))?;
-    let (_, at) = read_place(tokens, at, Class::Symbol(Symbol::Semicolon))?;
+    let (place, at) = expect(tokens, at, Class::Keyword(Keyword::Done))?;
+    let (_, at) = expect(tokens, at, Class::Symbol(Symbol::Semicolon))?;
     Ok((Stmt::Done { place }, at))
 }
 
@@ -336,11 +309,10 @@ fn read_go(
     depth: usize,
 ) -> Result<(Stmt, usize), Refused>
     requires { at ≤ length tokens.now }
-    ensures reads { Reads (P.go_over (P.expr depth)).parse tokens.now at result }
-    ensures moves { IfOk result (λ x. at + 1 ≤ x.1) }
+    ensures { Reads (P.go_over (P.expr depth)).parse tokens.now at (at + 1) result }
 {
-    let (place, at) = read_place(tokens, at, Class::Keyword(Keyword::Go))?;
+    let (place, at) = expect(tokens, at, Class::Keyword(Keyword::Go))?;
     let (to, at) = read_expr(alloc, tokens, at, depth)?;
-    let (_, at) = read_place(tokens, at, Class::Symbol(Symbol::Semicolon))?;
+    let (_, at) = expect(tokens, at, Class::Symbol(Symbol::Semicolon))?;
     Ok((Stmt::Go { place, to }, at))
 }

@@ -247,3 +247,17 @@ fn lex_goes_before_deep_and_deep_before_syntax(rt: HostRuntime) {
         assert_eq!(rt; count(&rt, rt.alloc(), text), Err(fault));
     }
 }
+
+#[test]
+fn a_fault_says_itself(rt: HostRuntime) -> Result<(), Fail> {
+    let cases = [
+        (SyntaxFault::Lex(0), "program lex 0"),
+        (SyntaxFault::Deep(257), "program deep 257"),
+        (SyntaxFault::Syntax(65536), "program syntax 65536"),
+        (SyntaxFault::Memory, "memory"),
+    ];
+    for (fault, words) in cases {
+        assert_eq!(rt; format!(in rt.alloc(); "{fault}")?.as_str(), words);
+    }
+    Ok(())
+}

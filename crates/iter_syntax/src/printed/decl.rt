@@ -2,7 +2,7 @@
 
 ghost use Rattle.std.specs.Prelude.{◌≡◌, ◌<◌, ◌≤◌, ◌⊎◌, length, drop, IsTrue, OnOk};
 ghost use Rattle.iter_syntax.specs.Printed as P;
-ghost use Rattle.iter_syntax.specs.Printing.{add_type, add_field, add_fields, add_record, add_arg, add_args, add_head, add_iter, add_decl, add_each, iter_next};
+ghost use Rattle.iter_syntax.specs.Steps.Printing.{add_type, add_field, add_fields, add_record, add_arg, add_args, add_head, add_iter, add_decl, add_each, iter_next};
 
 use super::stmt::put_block;
 use super::text::{put_keyword, put_name, put_next, put_number, put_symbol};

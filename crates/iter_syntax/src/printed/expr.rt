@@ -3,66 +3,15 @@
 ghost use Rattle.std.specs.Prelude.{◌≡◌, OnOk, nat_lt};
 ghost use Rattle.iter_syntax.specs.Tree.{ex, used};
 ghost use Rattle.iter_syntax.specs.Printed as P;
-ghost use Rattle.iter_syntax.specs.Printing.{add, add_expr, add_use, within};
+ghost use Rattle.iter_syntax.specs.Steps.Printing.{add, add_expr, add_use, within};
 
 use super::text::{put_keyword, put_name, put_number, put_symbol};
 use crate::token::{Keyword, Symbol};
-use crate::tree::{BinaryOp, Expr, FieldUse};
+use crate::tree::{Expr, FieldUse};
 use pulse_base::{Bytes, Memory};
 
 /// The level of the comparisons, which do not stand in a row.
 const COMPARISON: usize = 5;
-
-/// The level of an operator, from 1, the tightest, to 7.
-fn level_of_operator(op: BinaryOp) -> usize
-    ensures { result ≡ P.level_of_operator op }
-{
-    match op {
-        BinaryOp::Mul => 1,
-        BinaryOp::Div => 1,
-        BinaryOp::Mod => 1,
-        BinaryOp::Add => 2,
-        BinaryOp::Sub => 2,
-        BinaryOp::Shl => 3,
-        BinaryOp::Shr => 3,
-        BinaryOp::BitAnd => 4,
-        BinaryOp::BitOr => 4,
-        BinaryOp::BitXor => 4,
-        BinaryOp::Eq => 5,
-        BinaryOp::Ne => 5,
-        BinaryOp::Lt => 5,
-        BinaryOp::Le => 5,
-        BinaryOp::Gt => 5,
-        BinaryOp::Ge => 5,
-        BinaryOp::And => 6,
-        BinaryOp::Or => 7,
-    }
-}
-
-fn symbol_of_operator(op: BinaryOp) -> Symbol
-    ensures { result ≡ P.symbol_of_operator op }
-{
-    match op {
-        BinaryOp::Mul => Symbol::Star,
-        BinaryOp::Div => Symbol::Slash,
-        BinaryOp::Mod => Symbol::Percent,
-        BinaryOp::Add => Symbol::Plus,
-        BinaryOp::Sub => Symbol::Minus,
-        BinaryOp::Shl => Symbol::ShiftLeft,
-        BinaryOp::Shr => Symbol::ShiftRight,
-        BinaryOp::BitAnd => Symbol::And,
-        BinaryOp::BitOr => Symbol::Or,
-        BinaryOp::BitXor => Symbol::Caret,
-        BinaryOp::Eq => Symbol::EqualEqual,
-        BinaryOp::Ne => Symbol::NotEqual,
-        BinaryOp::Lt => Symbol::Less,
-        BinaryOp::Le => Symbol::LessEqual,
-        BinaryOp::Gt => Symbol::Greater,
-        BinaryOp::Ge => Symbol::GreaterEqual,
-        BinaryOp::And => Symbol::AndAnd,
-        BinaryOp::Or => Symbol::OrOr,
-    }
-}
 
 /// The loosest level that may stand at the left of an operator without parentheses: operators of one level
 /// group to the left.
@@ -81,7 +30,7 @@ fn level_of(e: &Expr) -> usize
     ensures { result ≡ P.level_of (ex e.now) }
 {
     match e {
-        Expr::Binary { op, .. } => level_of_operator(*op),
+        Expr::Binary { op, .. } => op.level(),
         _ => 0,
     }
 }
@@ -106,9 +55,9 @@ pub(super) fn put_expr(text: &mut Bytes, e: &Expr) -> Result<(), Memory>
             right,
             ..
         } => {
-            let level = level_of_operator(*op);
+            let level = op.level();
             put_operand(text, left.get(), left_level(level))?;
-            put_symbol(text, symbol_of_operator(*op))?;
+            put_symbol(text, op.symbol())?;
             put_operand(text, right.get(), level - 1)?;
             Ok(())
         }

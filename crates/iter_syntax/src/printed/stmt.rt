@@ -3,7 +3,7 @@
 ghost use Rattle.std.specs.Prelude.{◌≡◌, OnOk};
 ghost use Rattle.iter_syntax.specs.Tree.{ex, used, st, sts, end};
 ghost use Rattle.iter_syntax.specs.Printed as P;
-ghost use Rattle.iter_syntax.specs.Printing.{add, add_expr, add_use, add_value, add_range, add_stmts, add_block};
+ghost use Rattle.iter_syntax.specs.Steps.Printing.{add, add_expr, add_use, add_value, add_range, add_stmts, add_block};
 
 use super::expr::{put_expr, put_field};
 use super::text::{put_keyword, put_name, put_number, put_symbol};

@@ -3,7 +3,7 @@
 ghost use Rattle.std.specs.Prelude.{◌≡◌, ◌++◌, [], ◌∷◌, OnOk};
 ghost use Rattle.iter_syntax.specs.declared.token.TokenKind.TheVariants as K;
 ghost use Rattle.iter_syntax.specs.Printed.{next_word};
-ghost use Rattle.iter_syntax.specs.Printing.{add};
+ghost use Rattle.iter_syntax.specs.Steps.Printing.{add};
 ghost use Rattle.iter_syntax.specs.Printed as P;
 
 use crate::token::{Keyword, Symbol};

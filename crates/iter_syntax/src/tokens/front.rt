@@ -4,7 +4,7 @@ ghost use Rattle.std.specs.Prelude.{◌≡◌, ◌<◌, ◌≤◌, length, take,
 ghost use Rattle.std.specs.List.{prefix_len};
 ghost use Rattle.arrayvec.specs.ArrayVec.{array_vec_len};
 ghost use Rattle.iter_syntax.specs.Bytes.{in_word, in_run};
-ghost use Rattle.iter_syntax.specs.Reading.{front_token, front_word, front_number, front_symbol, word_kind, next_value, read_numeral, read_number};
+ghost use Rattle.iter_syntax.specs.Steps.Reading.{front_token, front_word, front_number, front_symbol, word_kind, next_value, read_numeral, read_number};
 
 use crate::spelling::{keyword_of, symbol_of};
 use crate::token::TokenKind;

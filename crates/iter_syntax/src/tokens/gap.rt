@@ -1,7 +1,7 @@
 // What stands between tokens.
 
 ghost use Rattle.std.specs.Prelude.{◌≡◌, ◌≤◌, length, false};
-ghost use Rattle.iter_syntax.specs.Reading.{gap_len};
+ghost use Rattle.iter_syntax.specs.Steps.Reading.{gap_len};
 ghost use Rattle.iter_syntax.specs.Bytes.{is_separator};
 
 // Space, tab, CR or LF.

@@ -1,5 +1,5 @@
 use Rattle.std.proofs.Common.{length, subst}
-use Rattle.iter_syntax.specs.Parsed.{TokensParsed}
+use Rattle.iter_syntax.specs.Steps.Reads.{TokensParsed}
 use Rattle.iter_syntax.proofs.Grammar.OneProgram.{one_program, text_parsed}
 use Rattle.iter_syntax.proofs.parser.parse.Goals as goal
 

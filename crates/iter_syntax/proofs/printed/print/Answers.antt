@@ -1,6 +1,6 @@
 use Rattle.std.proofs.Common.{ap, ◌∙◌}
 use Rattle.iter_syntax.specs.Printed.{in_order}
-use Rattle.iter_syntax.specs.Printing.{add_each, add_decl}
+use Rattle.iter_syntax.specs.Steps.Printing.{add_each, add_decl}
 use Rattle.iter_syntax.proofs.Printing.{program_is}
 use Rattle.iter_syntax.proofs.ReadsBack.Law.{reads_back}
 use Rattle.iter_syntax.proofs.printed.print.Goals as goal

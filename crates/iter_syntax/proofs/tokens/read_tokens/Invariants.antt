@@ -1,5 +1,5 @@
 use Rattle.std.proofs.Common.{◌-◌, length}
-use Rattle.iter_syntax.specs.Reading.{HasRead}
+use Rattle.iter_syntax.specs.Steps.Reading.{HasRead}
 use Rattle.iter_syntax.proofs.tokens.read_tokens.Given as goal
 
 abbrev pub invariant-loop-at : goal.invariant-loop-at

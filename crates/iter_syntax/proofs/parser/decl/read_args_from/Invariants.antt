@@ -3,7 +3,7 @@ use Rattle.iter_syntax.specs.declared.token.Token.{Token}
 use Rattle.iter_syntax.specs.declared.tree.Arg.{Arg}
 use Rattle.iter_syntax.specs.Form.{any}
 use Rattle.iter_syntax.specs.Productions as P
-use Rattle.iter_syntax.specs.Reads.{after, args_rest}
+use Rattle.iter_syntax.specs.Steps.Reads.{after, args_rest}
 use Rattle.iter_syntax.proofs.parser.decl.read_args_from.Given as goal
 
 pub record Row (tokens : List Token) (start at : ℕ) (first : Arg) (found : List Arg) : Type 0 where

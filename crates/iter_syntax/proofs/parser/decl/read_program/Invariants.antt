@@ -4,7 +4,7 @@ use Rattle.iter_syntax.specs.declared.tree.RecordDecl.{RecordDecl}
 use Rattle.iter_syntax.specs.declared.tree.Iter.{Iter}
 use Rattle.iter_syntax.specs.Form.{any}
 use Rattle.iter_syntax.specs.Productions as P
-use Rattle.iter_syntax.specs.Reads.{program_after}
+use Rattle.iter_syntax.specs.Steps.Reads.{program_after}
 use Rattle.iter_syntax.proofs.parser.decl.read_program.Given as goal
 
 pub record Row (tokens : List Token) (start at depth : ℕ) (records : List RecordDecl) (iters : List Iter) : Type 0 where

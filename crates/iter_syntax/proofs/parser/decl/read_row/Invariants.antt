@@ -3,7 +3,7 @@ use Rattle.iter_syntax.specs.declared.token.Token.{Token}
 use Rattle.iter_syntax.specs.declared.tree.FieldDecl.{FieldDecl}
 use Rattle.iter_syntax.specs.Form.{any}
 use Rattle.iter_syntax.specs.Productions as P
-use Rattle.iter_syntax.specs.Reads.{after}
+use Rattle.iter_syntax.specs.Steps.Reads.{after}
 use Rattle.iter_syntax.proofs.parser.decl.read_row.Given as goal
 
 -- the row from `at` on goes on after those found

@@ -2,7 +2,7 @@ use Rattle.std.proofs.Common.{◌*◌, ◌+◌, ◌-◌, ◌≤◌, ◌≡◌, �
 use Rattle.iter_syntax.specs.declared.token.Token.{Token}
 use Rattle.iter_syntax.specs.declared.tree.Expr.{Expr}
 use Rattle.iter_syntax.specs.Productions as P
-use Rattle.iter_syntax.specs.Reads.{chain_rest}
+use Rattle.iter_syntax.specs.Steps.Reads.{chain_rest}
 use Rattle.iter_syntax.proofs.parser.expr.+expr.Given as goal
 
 abbrev pub decreases-read_unary : goal.decreases-read_unary

@@ -3,7 +3,7 @@ use Rattle.iter_syntax.specs.declared.token.Token.{Token}
 use Rattle.iter_syntax.specs.declared.tree.Stmt.{Stmt}
 use Rattle.iter_syntax.specs.Form.{any}
 use Rattle.iter_syntax.specs.Productions as P
-use Rattle.iter_syntax.specs.Reads.{after}
+use Rattle.iter_syntax.specs.Steps.Reads.{after}
 use Rattle.iter_syntax.proofs.parser.stmt.+stmt.Given as goal
 
 abbrev pub decreases-read_block : goal.decreases-read_block

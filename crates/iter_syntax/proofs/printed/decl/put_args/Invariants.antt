@@ -1,5 +1,5 @@
 use Rattle.std.proofs.Common.{◌≡◌, drop, cond, nat_eq}
-use Rattle.iter_syntax.specs.Printing.{add_each, add_more, add_args}
+use Rattle.iter_syntax.specs.Steps.Printing.{add_each, add_more, add_args}
 use Rattle.iter_syntax.proofs.printed.decl.put_args.Given as goal
 
 -- the first argument has no comma before it

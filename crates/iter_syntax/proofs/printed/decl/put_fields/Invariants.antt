@@ -1,6 +1,6 @@
 use Rattle.std.proofs.Common.{◌≡◌, drop}
 use Rattle.iter_syntax.specs.Printed.{sym}
-use Rattle.iter_syntax.specs.Printing.{add, add_each, add_field}
+use Rattle.iter_syntax.specs.Steps.Printing.{add, add_each, add_field}
 use Rattle.iter_syntax.specs.declared.token.Symbol.TheVariants as S
 use Rattle.iter_syntax.proofs.printed.decl.put_fields.Given as goal
 

@@ -1,6 +1,6 @@
 use Rattle.std.proofs.Common.{◌≡◌, ◌+◌, length}
 use Rattle.iter_syntax.specs.Printed.{in_order}
-use Rattle.iter_syntax.specs.Printing.{add_each, add_decl}
+use Rattle.iter_syntax.specs.Steps.Printing.{add_each, add_decl}
 use Rattle.iter_syntax.proofs.printed.decl.put_program.Given as goal
 
 -- what is left, in order, adds to the text what the whole program adds to the first one

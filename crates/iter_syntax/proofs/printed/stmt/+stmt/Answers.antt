@@ -2,7 +2,7 @@ use Rattle.std.proofs.Common.{sym, ap, ◌∙◌}
 use Rattle.iter_syntax.specs.declared.token.Symbol.TheVariants as S
 use Rattle.iter_syntax.specs.Tree.{sts, block}
 use Rattle.iter_syntax.specs.Printed as P
-use Rattle.iter_syntax.specs.Printing.{add, add_stmts}
+use Rattle.iter_syntax.specs.Steps.Printing.{add, add_stmts}
 use Rattle.iter_syntax.proofs.FoldLaws.{block_is}
 use Rattle.iter_syntax.proofs.printed.stmt.+stmt.Goals as goal
 

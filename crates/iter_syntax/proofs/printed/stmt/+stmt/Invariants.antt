@@ -1,6 +1,6 @@
 use Rattle.std.proofs.Common.{◌≡◌, drop}
 use Rattle.iter_syntax.specs.Tree.{sts}
-use Rattle.iter_syntax.specs.Printing.{add_stmts}
+use Rattle.iter_syntax.specs.Steps.Printing.{add_stmts}
 use Rattle.iter_syntax.proofs.printed.stmt.+stmt.Given as goal
 
 -- the statements that are left add to the text what all of them add to the first one

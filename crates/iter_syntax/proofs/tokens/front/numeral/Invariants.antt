@@ -1,5 +1,5 @@
 use Rattle.std.proofs.Common.{◌≡◌, drop}
-use Rattle.iter_syntax.specs.Reading.{numeral_from}
+use Rattle.iter_syntax.specs.Steps.Reading.{numeral_from}
 use Rattle.iter_syntax.proofs.tokens.front.numeral.Given as goal
 
 abbrev pub invariant-loop-digit : goal.invariant-loop-digit

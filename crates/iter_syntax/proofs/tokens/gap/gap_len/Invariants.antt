@@ -1,5 +1,5 @@
 use Rattle.std.proofs.Common.{◌≡◌, ◌+◌, false, drop}
-use Rattle.iter_syntax.specs.Reading.{gap_len}
+use Rattle.iter_syntax.specs.Steps.Reading.{gap_len}
 use Rattle.iter_syntax.proofs.tokens.gap.gap_len.Given as goal
 
 abbrev pub invariant-loop-at : goal.invariant-loop-at

@@ -1,13 +1,18 @@
 -- What a reading function answers at a place of the tokens, by the parser of its form.
-use Rattle.std.specs.Prelude.{◌≡◌, ◌≤◌, ℕ, Bool, List, ◌∷◌, ◌++◌, length, drop, Result, Ok, Err}
+use Rattle.std.specs.Prelude.{slice_get, ◌≡◌, ◌≤◌, ℕ, Bool, List, ◌∷◌, ◌++◌, length, drop, Result, Ok, Err}
 use Rattle.iter_syntax.specs.declared.token.Token.{Token}
 use Rattle.iter_syntax.specs.declared.parser.reader.Refused.{Refused}
 use Rattle.iter_syntax.specs.declared.parser.reader.Refused.TheVariants.{At, Memory}
 use Rattle.iter_syntax.specs.declared.parser.reader.Class.{Class}
 use Rattle.iter_syntax.specs.declared.parser.reader.Class.TheVariants as C
 use Rattle.iter_syntax.specs.Kinds.{is_name, is_next, is_number, is_keyword, is_symbol}
-use Rattle.iter_syntax.specs.Form.{Form, Parser, Reading, Read, Stuck, bind, read_value, gives, one, both, any, maybe}
+use Rattle.iter_syntax.specs.Form.{Form, gives, one, both, any, maybe}
+use Rattle.iter_syntax.specs.Steps.Parsers.{Parser, Reading, Read, Stuck, bind, read_value}
 use Rattle.iter_syntax.specs.Productions.{place_of, operator, grouped, compared, more_arg, Decl, records_of, iters_of}
+use Rattle.iter_syntax.specs.Program.{IsProgram, StopsAt}
+use Rattle.iter_syntax.specs.Parsed.{offset_of}
+use Rattle.iter_syntax.specs.declared.fault.SyntaxFault.{SyntaxFault}
+use Rattle.iter_syntax.specs.declared.fault.SyntaxFault.TheVariants as F
 use Rattle.iter_syntax.specs.declared.tree.Arg.{Arg}
 use Rattle.iter_syntax.specs.declared.tree.RecordDecl.{RecordDecl}
 use Rattle.iter_syntax.specs.declared.tree.Iter.{Iter}
@@ -26,10 +31,17 @@ in_class (C.Symbol s) t = is_symbol s t
 abbrev pub of_class : Class → Form Place
 of_class c = gives place_of (one (in_class c))
 
-abbrev pub Reads : {A : Type 0} → Parser A → List Token → ℕ → Result (A × ℕ) Refused → Type 0
-Reads p ts at (Ok x) = (x.1 ≤ length ts) × (p (drop at ts) ≡ Read x.0 (drop x.1 ts))
-Reads p ts at (Err (At stop)) = (stop ≤ length ts) × (p (drop at ts) ≡ Stuck (drop stop ts))
-Reads p ts at (Err Memory) = Unit {0}
+-- from token `at` on: a form and where it ends, at `past` or behind it; or the token that does not fit
+abbrev pub Reads : {A : Type 0} → Parser A → List Token → ℕ → ℕ → Result (A × ℕ) Refused → Type 0
+Reads p ts at past (Ok x) = (past ≤ x.1) × (x.1 ≤ length ts) × (p (drop at ts) ≡ Read x.0 (drop x.1 ts))
+Reads p ts at past (Err (At stop)) = (stop ≤ length ts) × (p (drop at ts) ≡ Stuck (drop stop ts))
+Reads p ts at past (Err Memory) = Unit {0}
+
+-- the same of a function that takes no memory: it never answers the want of it
+abbrev pub Finds : {A : Type 0} → Parser A → List Token → ℕ → ℕ → Result (A × ℕ) Refused → Type 0
+Finds p ts at past (Ok x) = (past ≤ x.1) × (x.1 ≤ length ts) × (p (drop at ts) ≡ Read x.0 (drop x.1 ts))
+Finds p ts at past (Err (At stop)) = (stop ≤ length ts) × (p (drop at ts) ≡ Stuck (drop stop ts))
+Finds p ts at past (Err Memory) = ⊥
 
 -- a row that goes on after the items found so far
 abbrev pub after : {A : Type 0} → List A → Reading (List A) → Reading (List A)
@@ -49,3 +61,11 @@ args_rest first = read_value (λ others. first ∷ others) (any more_arg).parse
 -- a program that goes on after the records and iterators found so far
 abbrev pub program_after : List RecordDecl → List Iter → Reading (List Decl) → Reading Program
 program_after records iters r = bind r (λ ds left. Read (record { records = records ++ records_of ds; iters = iters ++ iters_of ds }) left)
+
+-- what is answered of a token list, in a text that ends at `end`
+abbrev pub TokensParsed : ℕ → List Token → Result Program SyntaxFault → Type 0
+TokensParsed end ts (Ok p) = IsProgram ts p
+TokensParsed end ts (Err (F.Lex place)) = ⊥
+TokensParsed end ts (Err (F.Deep place)) = ⊥
+TokensParsed end ts (Err (F.Syntax place)) = (number : ℕ) × StopsAt ts number × (place ≡ offset_of end (slice_get ts number))
+TokensParsed end ts (Err F.Memory) = Unit {0}

@@ -1,5 +1,5 @@
 -- How the reader finds the first token of a text: the length of the gap before it, its kind and its length.
--- `proofs/Reading.antt` shows that this is what the definitions of tokens say.
+-- `proofs/Lexing` shows that this is what the definitions of tokens say.
 use Rattle.std.specs.Prelude.{◌≡◌, ◌≤◌, Ok, Err, Result, ℕ, ◌+◌, Bool, true, false, ◌==◌, ◌&&◌, ◌*◌, ◌^◌, nat_le, nat_lt, cond, not, List, [], ◌∷◌, length, take, drop, codes, nat_eq, Option, Some, None}
 use Rattle.std.specs.List.{prefix_len, starts_with}
 use Rattle.std.specs.Char.{is_ascii_lowercase, is_ascii_digit, digit_value}
@@ -11,6 +11,7 @@ use Rattle.iter_syntax.specs.declared.tokens.front.Front.{Front}
 use Rattle.iter_syntax.specs.declared.fault.SyntaxFault.{SyntaxFault}
 use Rattle.iter_syntax.specs.declared.fault.SyntaxFault.TheVariants as F
 use Rattle.iter_syntax.specs.declared.token.Token.{Token}
+use Rattle.iter_syntax.specs.Deep.{deep_place}
 use Rattle.iter_syntax.specs.Tokens.{Leads, AreTokens, IsLexPlace, begins_gap}
 use Rattle.iter_syntax.specs.Bytes.{is_separator, in_word, in_run}
 use Rattle.iter_syntax.specs.Spelling.{keyword_of, symbol_of, symbol_text, first_is}
@@ -83,6 +84,20 @@ ReadAnswer text (Err (F.Lex place)) = IsLexPlace text place
 ReadAnswer text (Err (F.Deep place)) = ⊥
 ReadAnswer text (Err (F.Syntax place)) = ⊥
 ReadAnswer text (Err F.Memory) = Unit {0}
+
+-- what reading the tokens of a text answers: its Lex place goes before its Deep place
+abbrev pub TokensAnswer : List ℕ → Result (List Token) SyntaxFault → Type 0
+TokensAnswer text (Ok ts) = AreTokens text ts × (deep_place ts ≡ None)
+TokensAnswer text (Err (F.Lex place)) = IsLexPlace text place
+TokensAnswer text (Err (F.Deep place)) = (ts : List Token) × AreTokens text ts × (deep_place ts ≡ Some place)
+TokensAnswer text (Err (F.Syntax place)) = ⊥
+TokensAnswer text (Err F.Memory) = Unit {0}
+
+-- a text has one token list or one Lex place, and not both
+pub record HasOneReading (text : List ℕ) : Type 0 where
+  pub tokens : (ts us : List Token) → AreTokens text ts → AreTokens text us → ts ≡ us
+  pub lex : (m n : ℕ) → IsLexPlace text m → IsLexPlace text n → m ≡ n
+  pub apart : (ts : List Token) (n : ℕ) → AreTokens text ts → IsLexPlace text n → ⊥
 
 -- the tokens found before offset `here`, with the gap behind them
 pub record HasRead (text : List ℕ) (found : List Token) (here : ℕ) : Type 0 where

@@ -15,7 +15,8 @@ use Rattle.iter_syntax.specs.declared.token.Keyword.TheVariants as W
 use Rattle.iter_syntax.specs.declared.token.Symbol.TheVariants as S
 use Rattle.iter_syntax.specs.Tree.{Ex, num, null, name, cur, cur_field, cur_item, pad_field, pad_item, not, flip, bin, at, Sts, end, bind, set, set_pad, set_pad_item, set_cur, set_cur_item, when, choose, loop, done, go, block}
 use Rattle.iter_syntax.specs.Productions.{Decl, a_record, an_iter}
-use Rattle.iter_syntax.specs.Printed.{key, sym, word, spelling, separator, level_of, level_of_operator, symbol_of_operator, left_level, right_level, width_key, next_word}
+use Rattle.iter_syntax.specs.Printed.{key, sym, word, spelling, separator, level_of, left_level, right_level, width_key, next_word}
+use Rattle.iter_syntax.specs.Operators.{level_of_operator, symbol_of_operator}
 
 -- the text with one token more
 abbrev pub add : TokenKind → List ℕ → List ℕ
