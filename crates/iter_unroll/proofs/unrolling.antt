@@ -6,3 +6,4 @@ pub mod Sheds
 pub mod Weights
 pub mod Rows
 pub mod Spans
+pub mod Iterators

@@ -95,6 +95,7 @@ pub fn span(flat: &Flat) -> (u16, u16)
     requires inside { HoldsAll (0, flat.now.record_size) (flat_uses flat.now) }
     ensures least { IsSpan (flat_uses flat.now) result }
 {
+    let _size = flat.record_size;
     let first = wider_row(None, flat.end_part.as_slice());
     match wider_row(first, flat.next_part.as_slice()) {
         None => (0, 0),

@@ -1,6 +1,7 @@
 // The straight code of a whole iterator.
 
-ghost use Rattle.std.specs.Prelude.{◌≡◌, ◌≤◌, ◌<◌, [], Some, IfOk, length};
+ghost use Rattle.std.specs.Prelude.{◌≡◌, ◌≤◌, ◌<◌, ◌&&◌, nat_lt, bytes_eq, option_map, [], Some, IfOk, length};
+ghost use Rattle.iter_check.specs.Layout.{text};
 ghost use Rattle.iter_syntax.specs.Tree.{block};
 ghost use Rattle.iter_check.specs.Layout as l;
 ghost use Rattle.iter_check.specs.FaultList as c;
@@ -19,19 +20,33 @@ use crate::refused::Refused;
 use crate::scope::{Meant, Scope};
 use crate::tree::{Flat, FlatBlock};
 use iter_check::{Checked, size_of};
-use iter_syntax::{Arg, Block, FieldDecl, Iter, Program};
+use iter_syntax::{Arg, Block, FieldDecl, Iter, RecordDecl};
 use pulse_base::Memory;
 use std::alloc::Global;
 
-// The fields of an iterator's record.
-fn record_fields<'a>(program: &'a Program, it: &Iter) -> &'a [FieldDecl]
-    ensures { result.now ≡ c.record_fields program.now.records it.now }
+// An iterator is on this record, if no other comes first.
+fn is_on(it: &Iter, record: &RecordDecl) -> bool
+    ensures { result ≡ (nat_lt ((record.now).place).0 ((it.now).place).0 && bytes_eq (text (record.now).name) (text (it.now).on)) }
 {
-    match program.records.as_slice().iter().find(|r| r.place.0 < it.place.0
-        && r.name.text.as_slice() == it.on.text.as_slice())
-    {
+    let before = record.place.0 < it.place.0;
+    let named = record.name.text.as_slice() == it.on.text.as_slice();
+    before && named
+}
+
+// The record that an iterator is on.
+fn record_for<'a>(records: &'a [RecordDecl], it: &Iter) -> Option<&'a RecordDecl>
+    ensures { option_map (λ r. r.now) result ≡ c.record_for records.now it.now }
+{
+    records.iter().find(|r| is_on(it, r))
+}
+
+// The fields of an iterator's record.
+fn record_fields<'a>(records: &'a [RecordDecl], it: &Iter) -> &'a [FieldDecl]
+    ensures { result.now ≡ c.record_fields records.now it.now }
+{
+    match record_for(records, it) {
         None => &[],
-        Some(r) => r.fields.as_slice(),
+        Some(record) => record.fields.as_slice(),
     }
 }
 
@@ -121,7 +136,7 @@ pub fn unroll(alloc: Global, checked: &Checked, iter: usize) -> Result<Flat, Mem
     let program = checked.program();
     let it = program.iters.get(iter);
     let shape = Shape {
-        record_fields: record_fields(program, it),
+        record_fields: record_fields(program.records.as_slice(), it),
         pad_fields: it.pad.as_slice(),
     };
     let init_part = unroll_init(alloc, it)?;

@@ -1,19 +1,22 @@
 -- The bounds that are found are the least that hold all fields.
-use Rattle.std.proofs.Common.{◌≡◌, ℕ, suc, ◌+◌, ◌-◌, ◌<◌, ◌≤◌, List, [], ◌∷◌, ◌++◌, length, drop, get_or, Option, Some, None, refl, sym, ap, subst, ◌∙◌, arith, le_refl, add-one, drop-cons}
+use Rattle.std.proofs.Common.{◌≡◌, ℕ, suc, ◌+◌, ◌-◌, ◌*◌, ◌<◌, ◌≤◌, List, [], ◌∷◌, ◌++◌, length, drop, get_or, Option, Some, None, refl, sym, ap, subst, ◌∙◌, arith, le_refl, add-one, drop-cons}
 use Rattle.std.specs.Prelude.{⊤, min, max}
 use Rattle.iter_check.specs.Layout.{width_bytes}
+use Rattle.iter_unroll.specs.declared.tree.FlatExpr.{FlatExpr}
 use Rattle.iter_unroll.specs.declared.tree.FlatStmt.{FlatStmt}
+use Rattle.iter_unroll.specs.declared.tree.FlatStmt.TheVariants as T
 use Rattle.iter_unroll.specs.declared.tree.FlatStmt.TheOpen as P
 use Rattle.iter_unroll.specs.declared.tree.FlatStmt.TheFolds.{fold_out-FlatStmt}
 use Rattle.iter_unroll.specs.Flat.{Fx, Fs}
 use Rattle.iter_unroll.specs.Flat as f
-use Rattle.iter_unroll.specs.Tree.{fst, fsts, fst_step}
-use Rattle.iter_unroll.specs.Limits.{fs_nodes}
+use Rattle.iter_unroll.specs.Tree.{fx, fst, fsts, fst_step}
+use Rattle.iter_unroll.specs.Limits.{fx_nodes, fs_nodes}
 use Rattle.iter_unroll.specs.Uses.{Use, fx_uses, fs_uses}
 use Rattle.iter_unroll.specs.Span.{Holds, HoldsAll, LiesIn, IsSpan}
 use Rattle.iter_unroll.specs.unrolling.Tied.{Never}
 use Rattle.iter_unroll.specs.unrolling.Bounds.{wider, wider_fx, wider_fs}
 use Rattle.iter_unroll.proofs.accepted.Options.{never}
+use Rattle.iter_unroll.proofs.unrolling.Flats.{fst_if}
 
 -- with the fields of a list
 abbrev pub wider_all : Option (ℕ × ℕ) → List Use → Option (ℕ × ℕ)
@@ -137,3 +140,32 @@ fsts_drop ss i s h e =
 
 pub nodes_drop : (ss : List FlatStmt) (i : ℕ) (s : FlatStmt) → i < length ss → s ≡ get_or ss i s → fs_nodes (fsts (drop i ss)) ≡ fs_nodes (fst s f.end) + fs_nodes (fsts (drop (i + 1) ss))
 nodes_drop ss i s h e = ap fs_nodes (fsts_drop ss i s h e) ∙ fst_nodes s (fsts (drop (i + 1) ss))
+
+-- an `if`
+nodes_if : (s : FlatStmt) (e : FlatExpr) (a b : List FlatStmt) → s ≡ T.If e a b → fs_nodes (fst s f.end) ≡ 1 + fx_nodes (fx e) + fs_nodes (fsts a) + fs_nodes (fsts b) + 0
+nodes_if s e a b h = ap (λ x. fs_nodes (fst x f.end)) h ∙ ap fs_nodes (fst_if e a b f.end)
+
+pub first_less : (s : FlatStmt) (e : FlatExpr) (a b ss : List FlatStmt) → s ≡ T.If e a b → ss ≡ a → 2 * fs_nodes (fsts ss) + 1 < 2 * fs_nodes (fst s f.end)
+first_less s e a b ss h q =
+    let n = nodes_if s e a b h in
+    let k : fs_nodes (fsts ss) ≡ fs_nodes (fsts a) = ap (λ l. fs_nodes (fsts l)) q in
+    omega (arith, n, k)
+
+pub other_less : (s : FlatStmt) (e : FlatExpr) (a b ss : List FlatStmt) → s ≡ T.If e a b → ss ≡ b → 2 * fs_nodes (fsts ss) + 1 < 2 * fs_nodes (fst s f.end)
+other_less s e a b ss h q =
+    let n = nodes_if s e a b h in
+    let k : fs_nodes (fsts ss) ≡ fs_nodes (fsts b) = ap (λ l. fs_nodes (fsts l)) q in
+    omega (arith, n, k)
+
+pub if_wider : (s : FlatStmt) (e : FlatExpr) (a b sa sb : List FlatStmt) (w x y z : Option (ℕ × ℕ)) → s ≡ T.If e a b → x ≡ wider_fx w (fx e) → sa ≡ a → y ≡ wider_fs x (fsts sa) → sb ≡ b → z ≡ wider_fs y (fsts sb) → (rest : Fs) → wider_fs w (fst s rest) ≡ wider_fs z rest
+if_wider s e a b sa sb w x y z h hx ha hy hb hz rest =
+    let y_is : y ≡ wider_fs (wider_fx w (fx e)) (fsts a) = hy ∙ ap (λ l. wider_fs x (fsts l)) ha ∙ ap (λ o. wider_fs o (fsts a)) hx in
+    let z_is : z ≡ wider_fs (wider_fs (wider_fx w (fx e)) (fsts a)) (fsts b) = hz ∙ ap (λ l. wider_fs y (fsts l)) hb ∙ ap (λ o. wider_fs o (fsts b)) y_is in
+    ap (λ u. wider_fs w (fst u rest)) h ∙ ap (wider_fs w) (fst_if e a b rest) ∙ ap (λ o. wider_fs o rest) (sym z_is)
+
+-- what is found of end and next
+pub found : (o : Option (ℕ × ℕ)) (x : Option (ℕ × ℕ)) (e n es ns : Fs) → x ≡ wider_fs None e → o ≡ wider_fs x n → e ≡ es → n ≡ ns → Spans (fs_uses es ++ fs_uses ns) o
+found o x e n es ns hx ho he hn =
+    let one : x ≡ wider_all None (fs_uses es) = hx ∙ ap (wider_fs None) he ∙ fs_all None es in
+    let two : o ≡ wider_all None (fs_uses es ++ fs_uses ns) = then_all None x (fs_uses es) (fs_uses ns) one o (ho ∙ ap (wider_fs x) hn ∙ fs_all x ns) in
+    subst (Spans (fs_uses es ++ fs_uses ns)) (sym two) (spans (fs_uses es ++ fs_uses ns))
