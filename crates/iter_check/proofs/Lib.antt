@@ -3,3 +3,12 @@ pub mod MeaningLaws
 pub mod StoreLaws
 pub mod NamesLaws
 pub mod SlotLaws
+pub mod First
+pub mod Order
+pub mod ScopeLaws
+pub mod IndexLaws
+pub mod CountLaws
+pub mod DeclLaws
+pub mod Joins
+pub mod Steps
+pub mod AcceptedLaws

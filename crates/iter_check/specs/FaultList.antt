@@ -1,6 +1,5 @@
 -- The fault list of a program. A program is accepted where its list is empty.
 use Rattle.std.specs.Prelude.{ℕ, ◌+◌, nat_lt, nat_eq, Bool, true, false, ◌&&◌, ◌||◌, List, [], ◌∷◌, ◌++◌, flat_map, slice_get, Option, Some, None, is_some, is_none, option_map, find, bytes_eq, if◌then◌else◌}
-use Rattle.iter_syntax.specs.declared.tree.Place.{Place}
 use Rattle.iter_syntax.specs.declared.tree.Word.{Word}
 use Rattle.iter_syntax.specs.declared.tree.FieldDecl.{FieldDecl}
 use Rattle.iter_syntax.specs.declared.tree.RecordDecl.{RecordDecl}
@@ -85,9 +84,10 @@ with_args (a ∷ args) scope = with_args args (bind a.name (Some (arg_sort a)) f
 -- where a block of an iterator stands
 abbrev pub ground : List RecordDecl → Iter → Part → Ground
 ground records it b = record {
-    part = b;
-    record_fields = record_fields records it;
-    pad_fields = it.pad }
+  part = b;
+  record_fields = record_fields records it;
+  pad_fields = it.pad;
+}
 
 -- the faults of a block of an iterator
 abbrev pub block_faults : Ground → Scope → Block → List Fault

@@ -17,3 +17,4 @@ pub mod FaultList
 pub mod Accepted
 pub mod Words
 pub mod Views
+pub mod First

@@ -66,10 +66,7 @@ pub struct Fault {
 #[derive(Clone, Copy, Debug, PartialEq, Eq)]
 pub enum CheckError {
     /// The first fault of the program's list.
-    Fault {
-        kind: CheckKind,
-        place: u32,
-    },
+    Fault { kind: CheckKind, place: u32 },
     /// The want of memory.
     Memory,
 }

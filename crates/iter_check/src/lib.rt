@@ -7,19 +7,31 @@
 //!
 //! Then, for the faults of a program, `Faults`, `Scope`, `Typing`, `Expressions`, `Scoping`, `Paths`,
 //! `Nodes`, `Indices` and `FaultList`: each rule is one line there. [`check`] accepts a program whose
-//! fault list is empty. What stands in `specs/Views` says how the code holds a place, a value and the names in
+//! fault list is empty. What stands in `specs/First` goes as the checker goes, for its proofs alone. What stands in `specs/Views` says how the code holds a place, a value and the names in
 //! scope; nobody needs it to know what a program means. Nothing here runs an iterator or compiles a program.
 #![tactic(auto)]
 
+mod best;
 mod checked;
 mod checker;
+mod declared;
+mod expr;
 mod fields;
+mod index;
+mod iterator;
 mod kind;
 mod laws;
 mod loops;
 mod names;
+mod nodes;
+mod path;
 mod scope;
+mod sizes;
 mod sort;
+mod stmt;
+#[cfg(test)]
+mod tests;
+mod typing;
 mod value;
 
 pub use checked::Checked;
