@@ -1,0 +1,9 @@
+pub mod FirstUnknown
+pub mod Counted
+pub mod Ranges
+pub mod Limits
+pub mod Gathered
+pub mod ProgramLimits
+pub mod Runnable
+pub mod Told
+pub mod Composed

@@ -1,0 +1,13 @@
+pub mod Numbers
+pub mod Kinds
+pub mod Keys
+pub mod Values
+pub mod Form
+pub mod Events
+pub mod Regions
+pub mod OfProgram
+pub mod Plan
+pub mod Scenario
+pub mod Accepted
+pub mod Lines
+pub mod Steps
