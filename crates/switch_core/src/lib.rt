@@ -1,0 +1,11 @@
+//! The switch: it sends each frame on by the region of its next record, and takes no memory.
+//!
+//! Read [`Switch::on`]. Its rules are `run_rules/specs/Switch.antt`. Nothing here knows of sockets, letters or schedules.
+#![tactic(auto)]
+
+mod switch;
+#[cfg(test)]
+mod tests;
+
+pub use run_rules::Out;
+pub use switch::Switch;
