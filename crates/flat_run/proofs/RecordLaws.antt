@@ -1,5 +1,5 @@
 -- A step changes only the bytes of its record.
-use Rattle.std.proofs.Common.{◌≡◌, ℕ, zero, suc, ◌+◌, ◌-◌, min, List, [], ◌∷◌, length, take, drop, set, Option, Some, refl, sym, ap, subst, ◌∙◌, arith, length-take, length-drop}
+use Rattle.std.proofs.Common.{◌≡◌, ℕ, zero, suc, ◌+◌, ◌-◌, min, List, [], ◌∷◌, ◌++◌, length, take, drop, set, Option, Some, refl, sym, ap, subst, ◌∙◌, arith, length-append, length-take, length-drop}
 use Rattle.std.specs.Prelude.{slice_get}
 use Rattle.std.proofs.lemmas.Grind.{common_steps}
 use Rattle.iter_check.specs.Iteration.{Iterated, Done, Goes, Fault}
@@ -10,7 +10,7 @@ use Rattle.flat_run.specs.declared.state.FlatRegion.{FlatRegion}
 use Rattle.flat_run.specs.declared.state.FlatState.{FlatState}
 use Rattle.flat_run.specs.Walk.{record_size}
 use Rattle.flat_run.specs.Region.{spans, bytes_at, spliced, with_bytes, record_at}
-use Rattle.flat_run.specs.Step.{Turn, iterates, settled, turned}
+use Rattle.flat_run.specs.Step.{Next, iterates, settled, settled_next}
 use Rattle.flat_run.specs.Laws.{RecordLaw, ChangesWithin}
 
 splice_front : (b new : List ℕ) (off size : ℕ) → length new ≡ min size (length b - off) → take off (spliced b off new) ≡ take off b
@@ -19,7 +19,11 @@ splice_front b new off size h = grind (arith, common_steps)
 splice_back : (b new : List ℕ) (off size : ℕ) → length new ≡ min size (length b - off) → drop (off + size) (spliced b off new) ≡ drop (off + size) b
 splice_back b new off size h = grind (arith, common_steps)
 
-bytes_len : (o : FlatRegion) (p size : ℕ) → length (bytes_at (Some o) p size) ≡ min size (length o.bytes - (p - o.span.base))
+pub splice_len : (b new : List ℕ) (off size : ℕ) → length new ≡ min size (length b - off) → length (spliced b off new) ≡ length b
+splice_len b new off size h =
+    omega (arith, h, length-append (take off b ++ new) (drop (off + length new) b), length-append (take off b) new, length-take off b, length-drop (off + length new) b)
+
+pub bytes_len : (o : FlatRegion) (p size : ℕ) → length (bytes_at (Some o) p size) ≡ min size (length o.bytes - (p - o.span.base))
 bytes_len o p size = omega (arith, length-take size (drop (p - o.span.base) o.bytes), length-drop (p - o.span.base) o.bytes)
 
 pub get_same : {A : Type 0} (xs : List A) (i : ℕ) (x y : A) → slice_get xs i ≡ Some y → slice_get (set xs i x) i ≡ Some x
@@ -35,6 +39,7 @@ put_within rs i p size bytes old new e len h =
     let q : changed ≡ new = cc in
     subst (λ x. ChangesWithin old x (p - old.span.base) size) q (record {
       span = refl;
+      length = splice_len old.bytes bytes (p - old.span.base) size n;
       front = splice_front old.bytes bytes (p - old.span.base) size n;
       back = splice_back old.bytes bytes (p - old.span.base) size n;
     })
@@ -42,9 +47,9 @@ put_within rs i p size bytes old new e len h =
 same_within : (old new : FlatRegion) (offset size : ℕ) (o : Option FlatRegion) → o ≡ Some old → o ≡ Some new → ChangesWithin old new offset size
 same_within old new offset size o e h =
     let q : old ≡ new = cc in
-    subst (λ x. ChangesWithin old x offset size) q (record { span = refl; front = refl; back = refl })
+    subst (λ x. ChangesWithin old x offset size) q (record { span = refl; length = refl; front = refl; back = refl })
 
-settled_within : (s : FlatState) (r : ℕ) (t : Turn) (x : Iterated) (old new : FlatRegion) → Leaves (length (record_at s.regions t.region t.cur (record_size t.walk))) (length t.pad) x → slice_get s.regions t.region ≡ Some old → slice_get (settled s r t x).regions t.region ≡ Some new → ChangesWithin old new (t.cur - old.span.base) (record_size t.walk)
+settled_within : (s : FlatState) (r : ℕ) (t : Next) (x : Iterated) (old new : FlatRegion) → Leaves (length (record_at s.regions t.region t.cur (record_size t.walk))) (length t.pad) x → slice_get s.regions t.region ≡ Some old → slice_get (settled s r t x).regions t.region ≡ Some new → ChangesWithin old new (t.cur - old.span.base) (record_size t.walk)
 settled_within s r t (Done bytes pad) old new l e h = put_within s.regions t.region t.cur (record_size t.walk) bytes old new e l.0 h
 settled_within s r t (Goes to bytes pad) old new l e h = put_within s.regions t.region t.cur (record_size t.walk) bytes old new e l.0 h
 settled_within s r t (Fault k) old new l e h = same_within old new _ _ _ e h
@@ -53,4 +58,4 @@ pub record_alone : RecordLaw
 record_alone walks limit s r t old new e o h =
     settled_within s r t (iterates s t) old new
     (iteration_leaves t.walk.fields t.walk.iter (record_at s.regions t.region t.cur (record_size t.walk)) t.cur t.pad (may_write (spans s.regions) t.region))
-    o (sym (ap (λ x. slice_get (turned s r x).regions t.region) e) ∙ h)
+    o (sym (ap (λ x. slice_get (settled_next s r x).regions t.region) e) ∙ h)

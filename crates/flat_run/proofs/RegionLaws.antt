@@ -11,7 +11,7 @@ use Rattle.iter_check.specs.Laws.{Leaves}
 use Rattle.iter_check.proofs.LengthLaws.{iteration_leaves}
 use Rattle.flat_run.specs.declared.iteration.Iterated as c
 use Rattle.flat_run.specs.declared.iteration.Iterated.TheVariants as x
-use Rattle.flat_run.specs.Views.Interpreter.{iterated_of, Fits, HasRoom}
+use Rattle.flat_run.specs.Views.Interpreter.{iterated_of, Fits, HasRoom, HasPadLeft}
 use Rattle.range_table.specs.declared.region.RegionSpan.{RegionSpan}
 use Rattle.std.specs.Prelude.{slice_get}
 use Rattle.range_table.specs.Memory.{holds, region_of}
@@ -76,3 +76,13 @@ room_by (x.Goes to bytes pad') rs i p size r fields it cur pad w g e =
     let l = subst (Leaves (length (bytes_at (Some r) p size)) (length pad)) (sym e) (iteration_leaves fields it (bytes_at (Some r) p size) cur pad w) in
     fits_by rs i p size (length bytes) r g l.0
 room_by (x.Fault k) rs i p size r fields it cur pad w g e = tt
+
+-- the pad that an iteration leaves is as long as the one that it was given
+pub pad_by : (x : c.Iterated) (fields : List FieldDecl) (it : Iter) (bytes : List ℕ) (cur : ℕ) (pad : List ℕ) (w : Bool) → 1 ≤ length pad → length pad ≤ 256 → iterated_of x ≡ iteration fields it bytes cur pad w → HasPadLeft x
+pad_by (x.Done after pad') fields it bytes cur pad w some fit e =
+    let l = subst (Leaves (length bytes) (length pad)) (sym e) (iteration_leaves fields it bytes cur pad w) in
+    record { some = omega (arith, l.1, some); fit = omega (arith, l.1, fit) }
+pad_by (x.Goes to after pad') fields it bytes cur pad w some fit e =
+    let l = subst (Leaves (length bytes) (length pad)) (sym e) (iteration_leaves fields it bytes cur pad w) in
+    record { some = omega (arith, l.1, some); fit = omega (arith, l.1, fit) }
+pad_by (x.Fault k) fields it bytes cur pad w some fit e = tt

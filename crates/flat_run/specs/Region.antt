@@ -1,10 +1,20 @@
 -- The bytes of a record in the regions of a flat memory.
-use Rattle.std.specs.Prelude.{ℕ, ◌+◌, ◌-◌, List, [], ◌++◌, length, take, drop, Option, Some, None, map, slice_get, slice_set}
+use Rattle.std.specs.Prelude.{◌≡◌, ℕ, ◌+◌, ◌-◌, List, [], ◌++◌, length, take, drop, Option, Some, None, map, slice_get, slice_set, All}
 use Rattle.range_table.specs.declared.region.RegionSpan.{RegionSpan}
+use Rattle.range_table.specs.Table.{IsTable}
 use Rattle.flat_run.specs.declared.state.FlatRegion.{FlatRegion}
 
 abbrev pub spans : List FlatRegion → List RegionSpan
 spans regions = map (λ r. r.span) regions
+
+-- a memory: each region has as many bytes as its span says, and the spans make a table
+pub record IsMemory (regions : List FlatRegion) : Type 0 where
+  pub filled : All (λ r. length r.bytes ≡ r.span.len) regions
+  pub table : IsTable (spans regions)
+
+-- what no step changes of a region
+abbrev pub shape : FlatRegion → RegionSpan × ℕ
+shape r = (r.span, length r.bytes)
 
 -- the bytes of a region from an address on
 abbrev pub bytes_at : Option FlatRegion → ℕ → ℕ → List ℕ

@@ -6,18 +6,25 @@ ghost use Rattle.flat_run.specs.Request as q;
 ghost use Rattle.flat_run.specs.Run as r;
 
 use crate::iteration::{Begun, begin};
+use crate::next::{can_step, step};
 use crate::state::{FlatRegions, FlatRequest, FlatState};
-use crate::turn::{can_step, step};
 use crate::walk::FlatWalk;
-use pulse_base::{FaultKind, Listed, Memory};
+use pulse_base::{FaultKind, Listed, Memory, PadBytes};
 use std::alloc::Global;
 
 fn asked(alloc: Global, walk: &FlatWalk) -> Result<FlatRequest, Memory>
     ensures { IfOk result (λ x. x ≡ q.asked (walk_of walk.now)) }
 {
     match begin(alloc, walk.iter, walk.args)? {
-        Begun::Ready { cur, pad } => Ok(FlatRequest::Ready { cur, pad, count: 0 }),
-        Begun::Ended { pad } => Ok(FlatRequest::Done { pad, count: 0 }),
+        Begun::Ready { cur, pad } => Ok(FlatRequest::Ready {
+            cur,
+            pad: PadBytes::of(pad.as_slice()),
+            count: 0,
+        }),
+        Begun::Ended { pad } => Ok(FlatRequest::Done {
+            pad: PadBytes::of(pad.as_slice()),
+            count: 0,
+        }),
         Begun::DivZero => Ok(FlatRequest::Fault {
             kind: FaultKind::DivZero,
             cur: 0,
@@ -45,7 +52,7 @@ fn both(a: bool, b: bool) -> bool
 }
 
 /// Steps in the order of a list of request numbers, and says whether each could step when its turn came.
-/// For want of memory the state stands after some of the steps.
+/// For want of memory the state stands after some of the steps, before one that could be taken.
 pub fn run(
     alloc: Global,
     walks: &[FlatWalk],

@@ -1,6 +1,6 @@
 // What a flat run works on: a memory without nodes, and the requests that walk it.
 
-use pulse_base::{Bytes, FaultKind, Listed};
+use pulse_base::{Bytes, FaultKind, Listed, PadBytes};
 use range_table::RegionSpan;
 
 /// A region with its bytes, as many as its span says.
@@ -18,12 +18,12 @@ pub enum FlatRequest {
     /// The next iteration is at `cur`.
     Ready {
         cur: u64,
-        pad: Bytes,
+        pad: PadBytes,
         count: u64,
     },
     /// The walk ended with this pad.
     Done {
-        pad: Bytes,
+        pad: PadBytes,
         count: u64,
     },
     /// The iteration at `cur` faulted, or init did, with 0 for `cur`.

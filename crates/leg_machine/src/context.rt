@@ -4,7 +4,7 @@ ghost use Rattle.std.specs.Prelude.{◌≡◌, length};
 ghost use Rattle.code_verify.specs.Run.{run_body};
 ghost use Rattle.leg_machine.specs.Iterations.{IsIteration};
 
-use crate::run::Stop;
+use crate::step::Stop;
 use crate::whole::run_whole;
 use code_image::Image;
 use pulse_base::PadBytes;
@@ -32,29 +32,22 @@ pub enum Ended {
 
 /// Runs the body of an image at a record: its stores and the context's new pad take effect where it ends in `RETURN`
 /// or `NEXT_ITER`, and a fault leaves the record and the context as they were. What the verifier has shown is not
-/// tested again. The pad is copied in, and out again where no fault came; the record only where a store is reached.
+/// tested again. Nothing is copied up to the first store; where one is reached, the record is copied once, and the
+/// pad in and, where no fault came, out again.
 pub fn iterate(context: &mut Context, image: &Image, bytes: &mut [u8], writable: bool) -> Ended
     requires record_fits { length bytes.old ≡ image.now.record_size }
     requires pad_fits { length context.old.pad ≡ image.now.pad_size }
     ensures ran { IsIteration result (run_body image.now.body_code bytes.old context.old.pad context.old.cur writable) context.old context.new bytes.old bytes.new }
     ensures pad_size { length context.new.pad ≡ length context.old.pad }
 {
-    let size = image.pad_size as usize;
-    let mut pad = [0; 256];
-    pad[..size].copy_from_slice(context.pad.bytes());
     let code = image.body_code.as_slice();
-    match run_whole(code, bytes, &mut pad[..size], context.cur, writable) {
-        Stop::Done => {
-            context.pad.put(&pad[..size]);
-            Ended::Done
-        }
+    match run_whole(code, bytes, &mut context.pad, context.cur, writable) {
+        Stop::Done => Ended::Done,
         Stop::Go(to) => {
             context.cur = to;
-            context.pad.put(&pad[..size]);
             Ended::Go
         }
         Stop::NotWritable => Ended::NotWritable,
         Stop::DivZero => Ended::DivZero,
-        Stop::Held(_) => unreachable!(),
     }
 }

@@ -15,9 +15,8 @@ fn number_in(bytes: &[u8]) -> u64
     u64::from_le_bytes(all)
 }
 
-/// The number in `w` bytes at `off`.
-#[inline(always)]
-pub fn read_number(bytes: &[u8], off: u32, w: u8) -> u64
+// The number in 1, 2 or 4 bytes; any other width counts as 8.
+fn read_narrow(bytes: &[u8], off: u32, w: u8) -> u64
     requires { HasBytes (length bytes.now) off w }
     ensures { number_at bytes.now off w ≡ Some result }
 {
@@ -30,9 +29,21 @@ pub fn read_number(bytes: &[u8], off: u32, w: u8) -> u64
     }
 }
 
-/// Stores the low `w` bytes of a number at `off`.
+/// The number in `w` bytes at `off`. Eight bytes are tried first.
 #[inline(always)]
-pub fn store_number(bytes: &mut [u8], off: u32, w: u8, value: u64)
+pub fn read_number(bytes: &[u8], off: u32, w: u8) -> u64
+    requires { HasBytes (length bytes.now) off w }
+    ensures { number_at bytes.now off w ≡ Some result }
+{
+    if w == 8 {
+        let at = off as usize;
+        return number_in(&bytes[at..at + 8]);
+    }
+    read_narrow(bytes, off, w)
+}
+
+// Stores the low 1, 2 or 4 bytes of a number; any other width counts as 8.
+fn store_narrow(bytes: &mut [u8], off: u32, w: u8, value: u64)
     requires { HasBytes (length bytes.old) off w }
     ensures { stored_at bytes.old off w value ≡ Some bytes.new }
 {
@@ -44,4 +55,18 @@ pub fn store_number(bytes: &mut [u8], off: u32, w: u8, value: u64)
         4 => bytes[at..at + 4].copy_from_slice(&all[..4]),
         _ => bytes[at..at + 8].copy_from_slice(&all),
     }
+}
+
+/// Stores the low `w` bytes of a number at `off`. Eight bytes are tried first.
+#[inline(always)]
+pub fn store_number(bytes: &mut [u8], off: u32, w: u8, value: u64)
+    requires { HasBytes (length bytes.old) off w }
+    ensures { stored_at bytes.old off w value ≡ Some bytes.new }
+{
+    if w == 8 {
+        let at = off as usize;
+        bytes[at..at + 8].copy_from_slice(&value.to_le_bytes());
+        return;
+    }
+    store_narrow(bytes, off, w, value);
 }

@@ -8,8 +8,8 @@ use crate::context::{Context, Ended, iterate};
 use crate::jumps::{at_most, equal, less, unequal};
 use crate::numbers::{read_number, store_number};
 use crate::registers::{
-    Registers, add, both_bits, complement, divide, either_bits, multiply, remainder, set_high,
-    set_low, shift_left, shift_right, subtract, unlike_bits,
+    Registers, add, bits_and, bits_or, bits_xor, complement, divide, multiply, remainder, set_high,
+    set_low, shift_left, shift_right, subtract,
 };
 use code_image::{Code, Image};
 use code_verify::{Sizes, verify};
@@ -47,9 +47,9 @@ fn calculates_at_the_edges(rt: HostRuntime) {
     gives!(rt, divide, MAX, 2, HIGH - 1);
     gives!(rt, divide, 7, 0, 0);
     gives!(rt, remainder, 7, 4, 3);
-    gives!(rt, both_bits, 12, 10, 8);
-    gives!(rt, either_bits, 12, 10, 14);
-    gives!(rt, unlike_bits, 12, 10, 6);
+    gives!(rt, bits_and, 12, 10, 8);
+    gives!(rt, bits_or, 12, 10, 14);
+    gives!(rt, bits_xor, 12, 10, 6);
     gives!(rt, shift_left, 3, 63, HIGH);
     gives!(rt, shift_left, 5, 64, 5);
     gives!(rt, shift_right, HIGH, 63, 1);

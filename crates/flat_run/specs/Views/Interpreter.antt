@@ -8,7 +8,7 @@ use Rattle.iter_check.specs.Iteration as i
 use Rattle.flat_run.specs.Walk.{walk_of}
 use Rattle.flat_run.specs.Step as s
 use Rattle.flat_run.specs.declared.state.FlatRegion.{FlatRegion}
-use Rattle.flat_run.specs.declared.turn.Turn.{Turn}
+use Rattle.flat_run.specs.declared.next.Next.{Next}
 use Rattle.flat_run.specs.declared.value.Setting.{Setting}
 use Rattle.flat_run.specs.declared.value.State.{State}
 use Rattle.flat_run.specs.declared.statements.Ending.{Ending}
@@ -52,8 +52,13 @@ begun_of (begun.Ready cur pad) = i.Ready cur pad
 begun_of (begun.Ended pad) = i.Ended pad
 begun_of begun.DivZero = i.DivZero
 
-abbrev pub turn_is : Turn → s.Turn
-turn_is t = record { walk = walk_of t.walk; region = t.region; cur = t.cur; pad = t.pad.now; count = t.count }
+abbrev pub next_is : Next → s.Next
+next_is t = record { walk = walk_of t.walk; region = t.region; cur = t.cur; pad = t.pad.now; count = t.count }
+
+-- a pad of 1 to 256 bytes
+pub record HasPad (pad : List ℕ) : Type 0 where
+  pub some : 1 ≤ length pad
+  pub fit : length pad ≤ 256
 
 -- so many bytes lie inside region `i` from `p` on
 abbrev pub Fits : List FlatRegion → ℕ → ℕ → ℕ → Type 0
@@ -64,3 +69,9 @@ abbrev pub HasRoom : List FlatRegion → ℕ → ℕ → Iterated → Type 0
 HasRoom regions i p (iterated.Done bytes pad) = Fits regions i p (length bytes)
 HasRoom regions i p (iterated.Goes to bytes pad) = Fits regions i p (length bytes)
 HasRoom regions i p (iterated.Fault k) = Unit {0}
+
+-- the pad that an iteration leaves has 1 to 256 bytes
+abbrev pub HasPadLeft : Iterated → Type 0
+HasPadLeft (iterated.Done bytes pad) = HasPad pad
+HasPadLeft (iterated.Goes to bytes pad) = HasPad pad
+HasPadLeft (iterated.Fault k) = Unit {0}

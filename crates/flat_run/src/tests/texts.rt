@@ -1,9 +1,8 @@
 // Iterations of iterators that are read from text. Expected values are worked out from the rules of the language.
 
-use super::super::{FlatRegion, FlatRegions, FlatRequest, FlatWalk, Iterated, iterate, run, start};
+use super::super::{Iterated, iterate};
 use iter_syntax::{Program, parse};
-use pulse_base::{Bytes, FaultKind};
-use range_table::RegionSpan;
+use pulse_base::{Bytes, Cause};
 use std::alloc::Global;
 use std::test::Fail;
 
@@ -21,7 +20,7 @@ struct Row {
 enum Leaves {
     Done(&'static [u8], u64, u64),
     Goes(u64, u64, u64),
-    Fault(FaultKind),
+    Fault(Cause),
 }
 
 const BYTE: Row = Row {
@@ -31,7 +30,7 @@ const BYTE: Row = Row {
     leaves: Leaves::Done(&[5, 2], 0, 0),
 };
 
-const ROWS: [Row; 16] = [
+const ROWS: [Row; 24] = [
     BYTE,
     Row {
         fields: "x: u16; y: u8;",
@@ -106,12 +105,53 @@ const ROWS: [Row; 16] = [
     },
     Row {
         end: "cur.x = 7; pad.a = 1 / 0; done;",
-        leaves: Leaves::Fault(FaultKind::DivZero),
+        leaves: Leaves::Fault(Cause::DivZero),
         ..BYTE
     },
     Row {
         end: "pad.a = 1; pad.b = 5 % pad.b; done;",
-        leaves: Leaves::Fault(FaultKind::DivZero),
+        leaves: Leaves::Fault(Cause::DivZero),
+        ..BYTE
+    },
+    Row {
+        end: "pad.a = 3 << 65; pad.b = 12 >> 66; done;",
+        leaves: Leaves::Done(&[1, 2], 6, 3),
+        ..BYTE
+    },
+    Row {
+        end: "pad.a = 1 - 2; pad.b = 9223372036854775809 * 2; done;",
+        leaves: Leaves::Done(&[1, 2], 18446744073709551615, 2),
+        ..BYTE
+    },
+    Row {
+        end: "pad.a = ~5; pad.b = (12 & 10) * 256 + (12 | 10) * 16 + (12 ^ 10); done;",
+        leaves: Leaves::Done(&[1, 2], 18446744073709551610, 2278),
+        ..BYTE
+    },
+    Row {
+        end: "if 1 == 1 || 1 / 0 == 1 { pad.a = 17 % 5; } if 1 == 2 && 1 / 0 == 1 { pad.b = 9; } done;",
+        leaves: Leaves::Done(&[1, 2], 2, 0),
+        ..BYTE
+    },
+    Row {
+        end: "if 1 == 2 || 1 / 0 == 1 { pad.a = 1; } done;",
+        leaves: Leaves::Fault(Cause::DivZero),
+        ..BYTE
+    },
+    Row {
+        end: "if !(2 < 1) && 2 >= 2 { pad.a = 17 / 5; } if 2 != 2 || 3 > 3 || 3 <= 2 { pad.b = 1; } done;",
+        leaves: Leaves::Done(&[1, 2], 3, 0),
+        ..BYTE
+    },
+    Row {
+        fields: "k: [u16; 2]; y: u8;",
+        record: &[1, 1, 2, 1, 9],
+        end: "pad.a = cur.k[2]; cur.k[2] = 5; pad.b = at(cur, 18446744073709551615); done;",
+        leaves: Leaves::Done(&[1, 1, 2, 1, 9], 0, 4095),
+    },
+    Row {
+        end: "cur.x = 1 / 0; done;",
+        leaves: Leaves::Fault(Cause::DivZero),
         ..BYTE
     },
 ];
@@ -151,8 +191,8 @@ fn is_left(alloc: Global, ran: &Iterated, leaves: Leaves) -> Result<bool, Fail> 
             }
             _ => Ok(false),
         },
-        Iterated::Fault(kind) => match leaves {
-            Leaves::Fault(want) => Ok(*kind == want),
+        Iterated::Fault(cause) => match leaves {
+            Leaves::Fault(want) => Ok(*cause == want),
             _ => Ok(false),
         },
     }
@@ -168,50 +208,6 @@ fn iterates_on_records(rt: HostRuntime) -> Result<(), Fail> {
         let fields = record.fields.as_slice();
         let ran = iterate(rt.alloc(), fields, it, row.record, 4096, &[0; 16], true)?;
         assert!(rt; is_left(rt.alloc(), &ran, row.leaves)?, "{}", row.end);
-    }
-    Ok(())
-}
-
-#[test]
-fn fault_leaves_record_and_count(rt: HostRuntime) -> Result<(), Fail> {
-    for (end, write, want) in [
-        (
-            "cur.x = 7; pad.a = 100 / cur.y; done;",
-            true,
-            FaultKind::DivZero,
-        ),
-        ("cur.x = 7; done;", false, FaultKind::NotWritable),
-        ("cur.x = 1 / 0; done;", false, FaultKind::DivZero),
-    ] {
-        let program = program(rt.alloc(), "x: u8; y: u8;", end)?;
-        let ([record], [it]) = (program.records.as_slice(), program.iters.as_slice()) else {
-            return Err("not one record and one iterator")?;
-        };
-        let mut bytes = Bytes::new(rt.alloc());
-        bytes.append(&[1, 0])?;
-        let span = RegionSpan {
-            base: 16,
-            len: 2,
-            read: true,
-            write,
-        };
-        let mut regions = FlatRegions::new(rt.alloc());
-        regions.push(FlatRegion { span, bytes })?;
-        let walks = [FlatWalk {
-            fields: record.fields.as_slice(),
-            iter: it,
-            args: &[16],
-        }];
-        let mut state = start(rt.alloc(), regions, &walks)?;
-        assert!(rt; run(rt.alloc(), &walks, 9, &mut state, &[0])?, "{end}");
-        match (state.regions.as_slice(), state.requests.as_slice()) {
-            ([region], [FlatRequest::Fault { kind, cur, count }]) => {
-                assert_eq!(rt; region.bytes.as_slice(), [1, 0].as_slice(), "{end}");
-                assert_eq!(rt; *kind, want, "{end}");
-                assert_eq!(rt; (*cur, *count), (16, 0), "{end}");
-            }
-            _ => return Err("no fault")?,
-        }
     }
     Ok(())
 }

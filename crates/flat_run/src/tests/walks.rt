@@ -1,8 +1,8 @@
 // Walks over a list of four records, with programs read from text.
 
-use super::super::{FlatRegion, FlatRegions, FlatRequest, FlatWalk, can_step, run, start};
+use super::super::{FlatRegion, FlatRegions, FlatState, FlatWalk, can_step, due, run, start};
 use iter_syntax::{FieldDecl, Iter, parse};
-use pulse_base::{Bytes, Numbers};
+use pulse_base::{Answer, Bytes, FaultKind, Numbers};
 use range_table::RegionSpan;
 use std::alloc::Global;
 use std::test::Fail;
@@ -18,22 +18,25 @@ iter find on node {
   next { go cur.next; }
 }";
 
-// Where a walk ends: done with a key and a value in its pad, or before the record at a pointer.
+// The answer that a walk is due at its end: done with a key and a value in its pad, a fault at a pointer, or spent.
 #[derive(Clone, Copy)]
 enum End {
     Done(u64, u64),
-    At(u64),
+    Fault(FaultKind, u64),
+    Spent,
 }
 
-// The next of the last record, how many bytes are cut off, the most iterations, the arguments, the iterations made.
+// The next of the last record, how many bytes are cut off, whether the region may be read, the most iterations, the
+// arguments, the iterations made, and the answer that is due then.
 #[derive(Clone, Copy)]
 struct Row {
     name: &'static str,
     last: u64,
     cut: usize,
+    read: bool,
     limit: u64,
     args: [u64; 2],
-    turns: u32,
+    steps: u32,
     end: End,
 }
 
@@ -41,39 +44,40 @@ const FINDS: Row = Row {
     name: "finds the third",
     last: 0,
     cut: 0,
+    read: true,
     limit: 1024,
     args: [4096, 30],
-    turns: 3,
+    steps: 3,
     end: End::Done(30, 3),
 };
 
-const ROWS: [Row; 9] = [
+const ROWS: [Row; 10] = [
     FINDS,
     Row {
         name: "misses a key",
         args: [4096, 99],
-        turns: 4,
+        steps: 4,
         end: End::Done(99, 0),
         ..FINDS
     },
     Row {
         name: "starts unmapped",
         args: [5000, 30],
-        turns: 0,
-        end: End::At(5000),
+        steps: 0,
+        end: End::Fault(FaultKind::Unmapped, 5000),
         ..FINDS
     },
     Row {
         name: "starts between records",
         args: [4150, 30],
-        turns: 1,
-        end: End::At(2621440),
+        steps: 1,
+        end: End::Fault(FaultKind::Unmapped, 2621440),
         ..FINDS
     },
     Row {
         name: "finds between records",
         args: [4150, 196608],
-        turns: 1,
+        steps: 1,
         end: End::Done(196608, 273154048),
         ..FINDS
     },
@@ -81,8 +85,8 @@ const ROWS: [Row; 9] = [
         name: "meets a cut record",
         cut: 1,
         args: [4096, 99],
-        turns: 3,
-        end: End::At(4168),
+        steps: 3,
+        end: End::Fault(FaultKind::Unmapped, 4168),
         ..FINDS
     },
     Row {
@@ -90,8 +94,8 @@ const ROWS: [Row; 9] = [
         last: 4096,
         limit: 6,
         args: [4096, 99],
-        turns: 6,
-        end: End::At(4144),
+        steps: 6,
+        end: End::Spent,
         ..FINDS
     },
     Row {
@@ -99,8 +103,8 @@ const ROWS: [Row; 9] = [
         last: 5000,
         limit: 4,
         args: [4096, 99],
-        turns: 4,
-        end: End::At(5000),
+        steps: 4,
+        end: End::Spent,
         ..FINDS
     },
     Row {
@@ -108,8 +112,15 @@ const ROWS: [Row; 9] = [
         last: 5000,
         limit: 6,
         args: [4096, 99],
-        turns: 4,
-        end: End::At(5000),
+        steps: 4,
+        end: End::Fault(FaultKind::Unmapped, 5000),
+        ..FINDS
+    },
+    Row {
+        name: "meets a region that may not be read",
+        read: false,
+        steps: 0,
+        end: End::Fault(FaultKind::NotReadable, 4096),
         ..FINDS
     },
 ];
@@ -133,7 +144,7 @@ fn memory(alloc: Global, row: &Row) -> Result<FlatRegions, Fail> {
     let span = RegionSpan {
         base: 4096,
         len: len as u64,
-        read: true,
+        read: row.read,
         write: true,
     };
     let mut regions = FlatRegions::new(alloc);
@@ -141,8 +152,8 @@ fn memory(alloc: Global, row: &Row) -> Result<FlatRegions, Fail> {
     Ok(regions)
 }
 
-// A turn for request 0, so many times.
-fn turns(alloc: Global, count: u32) -> Result<Numbers, Fail> {
+// Request 0, so many times.
+fn order_of(alloc: Global, count: u32) -> Result<Numbers, Fail> {
     let mut order = Numbers::new(alloc);
     for _ in 0..count {
         order.push(0)?;
@@ -150,41 +161,39 @@ fn turns(alloc: Global, count: u32) -> Result<Numbers, Fail> {
     Ok(order)
 }
 
-// Whether a request stands as a row says it ends.
-fn is_at(alloc: Global, request: &FlatRequest, row: &Row) -> Result<bool, Fail> {
-    match (request, row.end) {
-        (FlatRequest::Ready { cur, count, .. }, End::At(at)) => {
-            Ok(*cur == at && *count == u64::from(row.turns))
-        }
-        (FlatRequest::Done { pad, count }, End::Done(key, got)) => {
+// Whether the answer that is due is the one that a row says.
+fn is_due(alloc: Global, answer: Option<Answer>, row: &Row) -> Result<bool, Fail> {
+    let made = u64::from(row.steps);
+    match (answer, row.end) {
+        (Some(Answer::Done { pad, count }), End::Done(key, got)) => {
             let mut want = Bytes::new(alloc);
             want.append(&key.to_le_bytes())?;
             want.append(&got.to_le_bytes())?;
-            Ok(pad.as_slice() == want.as_slice() && *count == u64::from(row.turns))
+            Ok(pad.bytes() == want.as_slice() && count == made)
         }
+        (Some(Answer::Fault { kind, cur, count }), End::Fault(want, at)) => {
+            Ok(kind == want && cur == at && count == made)
+        }
+        (Some(Answer::Spent { count }), End::Spent) => Ok(count == made),
         _ => Ok(false),
     }
 }
 
-// Whether a row's walk makes its turns, has none left, and ends as the row says.
+// Whether nothing is due before a row's walk, its steps are legal, none is left, and then its answer is due.
 fn goes_as_said(alloc: Global, fields: &[FieldDecl], iter: &Iter, row: &Row) -> Result<bool, Fail> {
-    let walks = [FlatWalk {
-        fields,
-        iter,
-        args: &row.args,
-    }];
-    let order = turns(alloc, row.turns)?;
-    let mut state = start(alloc, memory(alloc, row)?, &walks)?;
+    let walks = [FlatWalk::of(fields, iter, &row.args).ok_or("a pad of another size")?];
+    let mut state: FlatState = start(alloc, memory(alloc, row)?, &walks)?;
+    if due(&walks, row.limit, &state, 0).is_none() != (row.steps > 0) {
+        return Ok(false);
+    }
+    let order = order_of(alloc, row.steps)?;
     if !run(alloc, &walks, row.limit, &mut state, order.as_slice())? {
         return Ok(false);
     }
     if can_step(&walks, row.limit, &state, 0) {
         return Ok(false);
     }
-    match state.requests.as_slice() {
-        [request] => is_at(alloc, request, row),
-        _ => Ok(false),
-    }
+    is_due(alloc, due(&walks, row.limit, &state, 0), row)
 }
 
 #[test]
