@@ -1,3 +1,4 @@
+-- What is to be believed: all but `unrolling`.
 pub mod Flat
 pub mod Tree
 pub mod Limits

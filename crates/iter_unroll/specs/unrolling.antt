@@ -1,3 +1,4 @@
+-- What only proofs use.
 pub mod Scope
 pub mod Flattened
 pub mod Tied
