@@ -210,6 +210,7 @@ accepted_iter p i it h e =
       record_size = known_size (fl.record_for p.records it) (fault_false k.Name (it.on).place (is_none (fl.record_for p.records it)) f.0) (λ r q. flat_found fl.record_faults _ p.records r (records_empty p h) q);
       pad_size = fields_size k.PadSize it.name it.pad f.1;
       args = names_count k.ArgCount 8 (λ x. x.name) it.args d.1;
+      args_differ = (parts (fl.twice (λ x. x.name) [] it.args) (fl.one_more k.ArgCount 8 (λ x. x.name) it.args) d.1).0;
       init_nodes = capped (fl.init_nodes it) many.0;
       body_nodes = capped (fl.body_nodes it) many.1;
       init_part = block_empty gi (fl.with_args it.args []) it.init_part (parts (fl.block_faults gi (fl.with_args it.args []) it.init_part) (open_end (block it.init_part) (it.init_part).close) c.1).0 y.0;

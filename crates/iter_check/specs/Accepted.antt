@@ -13,7 +13,7 @@ use Rattle.iter_check.specs.Scope.{Scope, Ground}
 use Rattle.iter_check.specs.Scoping.{scoping}
 use Rattle.iter_check.specs.Paths.{ends, paths}
 use Rattle.iter_check.specs.Indices.{indices}
-use Rattle.iter_check.specs.FaultList.{record_fields, with_args, ground, init_nodes, body_nodes, fault_list}
+use Rattle.iter_check.specs.FaultList.{twice, record_fields, with_args, ground, init_nodes, body_nodes, fault_list}
 
 -- an answer tells the first fault of a list, or that memory is wanting
 abbrev pub IsFirst : List Fault → CheckError → Type 0
@@ -35,6 +35,7 @@ pub record AcceptedIter (p : Program) (it : Iter) : Type 0 where
   pub record_size : IsSize (size_of (record_fields p.records it))
   pub pad_size : IsSize (size_of it.pad)
   pub args : length it.args ≤ 8
+  pub args_differ : twice (λ a. a.name) [] it.args ≡ []
   pub init_nodes : init_nodes it ≤ 2000
   pub body_nodes : body_nodes it ≤ 2000
   pub init_part : AcceptedBlock (ground p.records it part.Init) (with_args it.args []) it.init_part

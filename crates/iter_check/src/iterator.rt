@@ -34,7 +34,7 @@ pub(crate) fn record_for<'a>(records: &'a [RecordDecl], it: &Iter) -> Option<&'a
 }
 
 /// The fields of an iterator's record.
-pub(crate) fn record_fields<'a>(records: &'a [RecordDecl], it: &Iter) -> &'a [FieldDecl]
+pub fn record_fields<'a>(records: &'a [RecordDecl], it: &Iter) -> &'a [FieldDecl]
     ensures { result.now ≡ fl.record_fields records.now it.now }
 {
     match record_for(records, it) {

@@ -40,6 +40,7 @@ pub use fields::{
     Slot, elements, field_size, find_field, read_at, read_item, size_of, width_bytes, write_at,
     write_item,
 };
+pub use iterator::record_fields;
 pub use kind::{CheckError, CheckKind, Fault};
 pub use laws::{
     law_iteration_keeps_lengths, law_store_touches_only_its_element, law_walk_has_its_pad,
