@@ -138,4 +138,3 @@ module _ (n : ℕ) (records : List RecordDecl) (iters : List Iter) (ts rest : To
   iter_turn x is h =
       decl_turn (Read (P.an_iter x) rest) (iter_first (P.block n) ts is ∙ ap (λ r. bind r (λ a left. Read (P.an_iter a) left)) h)
       ∙ iter_taken records iters x ((any decl).parse rest)
-

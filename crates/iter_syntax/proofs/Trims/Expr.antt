@@ -143,4 +143,3 @@ unary_trims (suc d) = unary_over_trims (P.unary d) (unary_trims d)
 
 pub expr_prints : (d : ℕ) → AllPrint (P.expr d).grammar (λ x. expr_kinds (ex x))
 expr_prints d = prints_expr (P.expr d).grammar (level_trims 7 (P.unary d) (unary_trims d))
-
