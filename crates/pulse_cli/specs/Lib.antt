@@ -1,2 +1,6 @@
-pub mod Statuses
+pub mod Answers
+pub mod Ending
+pub mod Lines
+pub mod Steps
 pub mod Words
+pub mod WordsRead

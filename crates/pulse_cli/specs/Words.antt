@@ -1,6 +1,15 @@
--- Which words are a command.
+-- Which words, without the program's own name, are a command.
 use Rattle.std.specs.Prelude.{◌≡◌, ℕ, List, [], ◌∷◌, codes}
+use Rattle.pulse_cli.specs.declared.command.Command.{Command}
+use Rattle.pulse_cli.specs.declared.command.Command.TheVariants as c
 
--- the one word `walk`
-abbrev pub IsWalk : List (List ℕ) → Type 0
-IsWalk words = words ≡ codes "walk" ∷ []
+-- the words of a command
+abbrev pub words_of : Command → List (List ℕ)
+words_of c.Walk = codes "walk" ∷ []
+words_of c.Format = codes "format" ∷ []
+
+abbrev pub IsCommand : List (List ℕ) → Command → Type 0
+IsCommand words command = words ≡ words_of command
+
+abbrev pub IsSomeCommand : List (List ℕ) → Type 0
+IsSomeCommand words = (command : Command) × IsCommand words command

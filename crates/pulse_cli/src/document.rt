@@ -1,11 +1,12 @@
 // The document of a walk.
 
-ghost use Rattle.std.specs.Prelude.{◌≡◌, ◌⊎◌};
+ghost use Rattle.std.specs.Prelude.{◌≡◌, ◌⊎◌, IfErr};
+ghost use Rattle.pulse_cli.specs.Steps.{IsOfInput};
 
+use crate::failure::{Failure, Refusal};
 use crate::keys::{has_only, number, number_or, only_table, text_at};
 use arrayvec::ArrayVec;
 use iter_syntax::{SyntaxFault, parse};
-use pulse_base::Memory;
 use pulse_codegen::{Built, CheckError, build, check};
 use std::alloc::Global;
 use toml::{Table, Value};
@@ -17,21 +18,6 @@ const MOST_REGION: usize = 4_096;
 const MOST_WORK: u64 = 1_048_576;
 
 const MEMORY_END: u64 = 0x1_0000_0000_0000;
-
-/// Why a document was not taken.
-#[derive(Clone, Copy, Debug, PartialEq, Eq)]
-pub(crate) enum Refusal {
-    /// It is no small document.
-    Refused,
-    /// Memory ran out.
-    Memory,
-}
-
-impl From<Memory> for Refusal {
-    fn from(_memory: Memory) -> Refusal {
-        Refusal::Memory
-    }
-}
 
 /// A region of memory, which may be read and written.
 #[derive(Debug, Drop)]
@@ -51,25 +37,27 @@ pub(crate) struct Plan {
 }
 
 /// Reads a document: its one program, region and request.
-pub(crate) fn read(alloc: Global, text: &[u8]) -> Result<Plan, Refusal> {
+pub(crate) fn read(alloc: Global, text: &[u8]) -> Result<Plan, Failure>
+    ensures { IfErr result IsOfInput }
+{
     let table = match toml::table_from_slice(alloc, text) {
         Ok(table) => table,
         Err(error) => return Err(if error.is_memory() {
-            Refusal::Memory
+            Failure::Memory
         } else {
-            Refusal::Refused
+            Failure::Refused(Refusal::Walk)
         }),
     };
     if !has_only(
         &table,
         &["program", "budget", "rounds", "region", "request"],
     ) {
-        return Err(Refusal::Refused);
+        return Err(Failure::Refused(Refusal::Walk));
     }
     let limit = read_limit(&table)?;
     let region = read_region(alloc, &table)?;
     let Some(request) = only_table(&table, "request") else {
-        return Err(Refusal::Refused);
+        return Err(Failure::Refused(Refusal::Walk));
     };
     let built = read_program(alloc, &table)?;
     let args = read_request(request, &built)?;
@@ -81,61 +69,69 @@ pub(crate) fn read(alloc: Global, text: &[u8]) -> Result<Plan, Refusal> {
     })
 }
 
-fn read_limit(table: &Table) -> Result<u64, Refusal> {
+fn read_limit(table: &Table) -> Result<u64, Failure>
+    ensures { IfErr result IsOfInput }
+{
     let budget = number_or(table, "budget", 1, 65_535, 64);
     let rounds = number_or(table, "rounds", 1, 1_000, 16);
     match (budget, rounds) {
         (Some(budget), Some(rounds)) if budget * rounds <= MOST_WORK => Ok(budget * rounds),
-        _ => Err(Refusal::Refused),
+        _ => Err(Failure::Refused(Refusal::Walk)),
     }
 }
 
-fn read_region(alloc: Global, table: &Table) -> Result<Region, Refusal> {
+fn read_region(alloc: Global, table: &Table) -> Result<Region, Failure>
+    ensures { IfErr result IsOfInput }
+{
     let Some(region) = only_table(table, "region") else {
-        return Err(Refusal::Refused);
+        return Err(Failure::Refused(Refusal::Walk));
     };
     if !has_only(region, &["base", "hex"]) {
-        return Err(Refusal::Refused);
+        return Err(Failure::Refused(Refusal::Walk));
     }
     let (Some(base), Some(text)) = (region.get("base"), text_at(region, "hex")) else {
-        return Err(Refusal::Refused);
+        return Err(Failure::Refused(Refusal::Walk));
     };
     let Some(base) = number(base, 0, MEMORY_END - 1) else {
-        return Err(Refusal::Refused);
+        return Err(Failure::Refused(Refusal::Walk));
     };
     let bytes = match hex::decode(alloc, text) {
         Ok(bytes) => bytes,
-        Err(hex::FromHexError::OutOfMemory) => return Err(Refusal::Memory),
-        Err(_) => return Err(Refusal::Refused),
+        Err(hex::FromHexError::OutOfMemory) => return Err(Failure::Memory),
+        Err(_) => return Err(Failure::Refused(Refusal::Walk)),
     };
     let len = bytes.len();
     if len == 0 || len > MOST_REGION || len as u64 > MEMORY_END - base {
-        return Err(Refusal::Refused);
+        return Err(Failure::Refused(Refusal::Walk));
     }
     Ok(Region { base, bytes })
 }
 
-fn read_program(alloc: Global, table: &Table) -> Result<Built, Refusal> {
+fn read_program(alloc: Global, table: &Table) -> Result<Built, Failure>
+    ensures { IfErr result IsOfInput }
+{
     let Some(text) = text_at(table, "program") else {
-        return Err(Refusal::Refused);
+        return Err(Failure::Refused(Refusal::Walk));
     };
     if text.len() > MOST_TEXT {
-        return Err(Refusal::Refused);
+        return Err(Failure::Refused(Refusal::Walk));
     }
     let program = match parse(alloc, text.as_bytes()) {
         Ok(program) => program,
-        Err(SyntaxFault::Memory) => return Err(Refusal::Memory),
-        Err(_) => return Err(Refusal::Refused),
+        Err(SyntaxFault::Memory) => return Err(Failure::Memory),
+        Err(_) => return Err(Failure::Refused(Refusal::Walk)),
     };
     match check(alloc, program) {
         Ok(checked) => Ok(build(alloc, checked)?),
-        Err(CheckError::Memory) => Err(Refusal::Memory),
-        Err(CheckError::NotSmall) => Err(Refusal::Refused),
+        Err(CheckError::Memory) => Err(Failure::Memory),
+        Err(CheckError::NotSmall) => Err(Failure::Refused(Refusal::Walk)),
     }
 }
 
 // The arguments of the request, as many as its iterator has.
-fn read_request(request: &Table, built: &Built) -> Result<ArrayVec<u64, 8>, Refusal> {
+fn read_request(request: &Table, built: &Built) -> Result<ArrayVec<u64, 8>, Failure>
+    ensures { IfErr result IsOfInput }
+{
     let known = has_only(request, &["iter", "args"]);
     let named = match text_at(request, "iter") {
         Some(name) => built.checked().has_iter(name.as_bytes()),
@@ -148,7 +144,7 @@ fn read_request(request: &Table, built: &Built) -> Result<ArrayVec<u64, 8>, Refu
     match args {
         Some(args) if known && named && args.len() == usize::from(built.checked().arg_count()) =>
             Ok(args),
-        _ => Err(Refusal::Refused),
+        _ => Err(Failure::Refused(Refusal::Walk)),
     }
 }
 

@@ -6,16 +6,17 @@
 #![tactic(auto)]
 
 mod absent;
+mod command;
 mod document;
 mod failure;
 mod keys;
 mod machine;
+mod program;
 mod report;
 #[cfg(test)]
 mod tests;
 mod top;
 mod walk;
-mod words;
 
 pub use absent::{AbsentKids, AbsentNet};
 pub use top::{MOST_INPUT, pulse};

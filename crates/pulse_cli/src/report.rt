@@ -1,7 +1,7 @@
 // The report of a walk.
 
 use crate::walk::Walked;
-use pulse_base::{Answer, FaultKind};
+use pulse_base::Answer;
 use std::alloc::{AllocError, Global};
 use std::fmt::Write;
 
@@ -27,20 +27,8 @@ fn push_answer(alloc: Global, text: &mut String, answer: &Answer) -> Result<(), 
             let bytes = hex::encode(alloc, pad.bytes())?;
             write!(text, "done {count} {bytes}")
         }
-        Answer::Fault { kind, cur, count } => {
-            let kind = fault_name(*kind);
-            write!(text, "fault {kind} {cur} {count}")
-        }
+        Answer::Fault { kind, cur, count } => { write!(text, "fault {kind} {cur} {count}") }
         Answer::Spent { count } => write!(text, "spent {count}"),
         Answer::Silent => text.push_str("silent"),
-    }
-}
-
-fn fault_name(kind: FaultKind) -> &'static str {
-    match kind {
-        FaultKind::Unmapped => "unmapped",
-        FaultKind::NotReadable => "not_readable",
-        FaultKind::NotWritable => "not_writable",
-        FaultKind::DivZero => "div_zero",
     }
 }

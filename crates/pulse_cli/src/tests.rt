@@ -165,44 +165,28 @@ fn document(alloc: Global, program: &str, walk: &Walk) -> Result<String, Fail> {
     )?)
 }
 
-fn numbers(alloc: Global, items: &[u32]) -> Result<Numbers, Fail> {
-    let mut list = Numbers::new(alloc);
-    list.append(items)?;
-    Ok(list)
-}
-
-// The words of a command.
-#[derive(Clone, Copy)]
-enum Words {
-    None,
-    Empty,
-    Walk,
-    WalkTwice,
-}
-
-fn words_of(alloc: Global, words: Words) -> Result<Vec<String>, Fail> {
+fn words_of(alloc: Global, words: &[&'static str]) -> Result<Vec<String>, Fail> {
     let mut all = Vec::new(alloc);
-    match words {
-        Words::None => {}
-        Words::Empty => all.push(String::new(alloc))?,
-        Words::Walk => all.push(String::from_str(alloc, "walk")?)?,
-        Words::WalkTwice => {
-            all.push(String::from_str(alloc, "walk")?)?;
-            all.push(String::from_str(alloc, "walk")?)?;
-        }
+    for word in words {
+        all.push(String::from_str(alloc, word)?)?;
     }
     Ok(all)
 }
 
-fn run(alloc: Global, words: Words, input: &[u8], piece: usize, fails: Fails) -> Result<Ran, Fail>
+fn run(
+    alloc: Global,
+    words: &[&'static str],
+    input: &[u8],
+    piece: usize,
+    fails: Fails,
+) -> Result<Ran, Fail>
     requires { 1 ≤ piece }
 {
     let all = words_of(alloc, words)?;
-    let mut bytes = Bytes::new(alloc);
-    bytes.append(input)?;
-    let mut source = MemSource::make(bytes, piece, numbers(alloc, fails.input)?);
-    let mut out = MemSink::make(alloc, 10_000, 4, numbers(alloc, fails.out)?)?;
-    let mut err = MemSink::make(alloc, 100, 100, numbers(alloc, fails.err)?)?;
+    let bytes = Bytes::from_slice(alloc, input)?;
+    let mut source = MemSource::make(bytes, piece, Numbers::from_slice(alloc, fails.input)?);
+    let mut out = MemSink::make(alloc, 10_000, 4, Numbers::from_slice(alloc, fails.out)?)?;
+    let mut err = MemSink::make(alloc, 100, 100, Numbers::from_slice(alloc, fails.err)?)?;
     let (mut net, mut kids) = (AbsentNet::new(), AbsentKids::new());
     let status = pulse(
         alloc,
@@ -220,7 +204,7 @@ fn run(alloc: Global, words: Words, input: &[u8], piece: usize, fails: Fails) ->
 fn walks_lists(rt: HostRuntime) -> Result<(), Fail> {
     for walk in &WALKS {
         let document = document(rt.alloc(), PROGRAM, walk)?;
-        let ran = run(rt.alloc(), Words::Walk, document.as_bytes(), 1000, NONE)?;
+        let ran = run(rt.alloc(), &["walk"], document.as_bytes(), 1000, NONE)?;
         let (order, answer, last) = (walk.order, walk.answer, walk.last);
         let report = format!(in rt.alloc();
             "pulse report 1\norder{order}\nrequest 0 {answer}\nregion 0 hex {FRONT}{last}\nend\n"
@@ -258,16 +242,19 @@ const READ_AND_LINE: Fails = Fails {
 #[rattlefmt::skip]
 fn says_why_it_fails(rt: HostRuntime) -> Result<(), Fail> {
     // The words, the bytes that a read takes, the calls that fail, the status, and what out and err took.
-    let cases: [(&str, Words, usize, Fails, Status, &[u8], &[u8]); 9] = [
-        ("no words", Words::None, 99, NONE, Status::Usage, b"", b"pulse: usage\n"),
-        ("an empty word", Words::Empty, 99, NONE, Status::Usage, b"", b"pulse: usage\n"),
-        ("two words", Words::WalkTwice, 99, NONE, Status::Usage, b"", b"pulse: usage\n"),
-        ("a read", Words::Walk, 99, FIRST_READ, Status::ReadFault, b"", b"pulse: read\n"),
-        ("a later read", Words::Walk, 8, SECOND_READ, Status::ReadFault, b"", b"pulse: read\n"),
-        ("a write", Words::Walk, 99, FIRST_WRITE, Status::WriteFault, b"", b"pulse: write\n"),
-        ("a later write", Words::Walk, 99, FOURTH_WRITE, Status::WriteFault, b"pulse report", b"pulse: write\n"),
-        ("a line", Words::None, 99, FIRST_LINE, Status::WriteFault, b"", b""),
-        ("a read and its line", Words::Walk, 99, READ_AND_LINE, Status::WriteFault, b"", b""),
+    let cases: [(&'static str, &'static [&'static str], usize, Fails, Status, &'static [u8], &'static [u8]); 12] = [
+        ("no words", &[], 99, NONE, Status::Usage, b"", b"pulse: usage\n"),
+        ("an empty word", &[""], 99, NONE, Status::Usage, b"", b"pulse: usage\n"),
+        ("an option", &["--help"], 99, NONE, Status::Usage, b"", b"pulse: usage\n"),
+        ("help", &["help", "walk"], 99, NONE, Status::Usage, b"", b"pulse: usage\n"),
+        ("a command behind two hyphens", &["--", "walk"], 99, NONE, Status::Usage, b"", b"pulse: usage\n"),
+        ("two words", &["walk", "walk"], 99, NONE, Status::Usage, b"", b"pulse: usage\n"),
+        ("a read", &["walk"], 99, FIRST_READ, Status::ReadFault, b"", b"pulse: read\n"),
+        ("a later read", &["walk"], 8, SECOND_READ, Status::ReadFault, b"", b"pulse: read\n"),
+        ("a write", &["walk"], 99, FIRST_WRITE, Status::WriteFault, b"", b"pulse: write\n"),
+        ("a later write", &["walk"], 99, FOURTH_WRITE, Status::WriteFault, b"pulse report", b"pulse: write\n"),
+        ("a line", &[], 99, FIRST_LINE, Status::WriteFault, b"", b""),
+        ("a read and its line", &["walk"], 99, READ_AND_LINE, Status::WriteFault, b"", b""),
     ];
     let document = document(rt.alloc(), PROGRAM, &WALKS[FIRST_WALK])?;
     for (name, words, piece, fails, status, out, err) in cases {
@@ -329,7 +316,7 @@ fn refuses<R: std::process::Abort + AllocGlobal>(
     document: &[u8],
     name: &str,
 ) -> Result<(), Fail> {
-    let ran = run(rt.alloc(), Words::Walk, document, 1000, NONE)?;
+    let ran = run(rt.alloc(), &["walk"], document, 1000, NONE)?;
     assert_eq!(rt; ran.status, Status::Refused, "{name}");
     assert_eq!(rt; ran.out.taken(), b"".as_slice(), "{name}");
     assert_eq!(rt; ran.err.taken(), b"pulse: refused\n".as_slice(), "{name}");
@@ -340,4 +327,25 @@ fn refuses<R: std::process::Abort + AllocGlobal>(
 fn replaced(alloc: Global, text: &str, old: &str, new: &str) -> Result<String, Fail> {
     let (front, back) = text.split_once(old).ok_or("the document has no such text")?;
     Ok(format!(in alloc; "{front}{new}{back}")?)
+}
+
+// The words and the input of a command, its status, and what out and err took.
+#[test]
+#[rattlefmt::skip]
+fn answers_programs(rt: HostRuntime) -> Result<(), Fail> {
+    let cases: [(&'static str, &'static [u8], Status, &'static [u8], &'static [u8]); 6] = [
+        ("format", b"record r{x:u8;}", Status::Ok, b"record r {\nx : u8 ;\n}\n", b""),
+        ("format", b"", Status::Ok, b"", b""),
+        ("format", b"record r { }", Status::Refused, b"", b"pulse: program record 7\n"),
+        ("format", b"record r { a: u8; } $", Status::Refused, b"", b"pulse: program lex 20\n"),
+        ("format", b"record r { a: u8;", Status::Refused, b"", b"pulse: program syntax 17\n"),
+        ("format", b"((((((((((((((((((((((((((((((((()", Status::Refused, b"", b"pulse: program deep 32\n"),
+    ];
+    for (word, input, status, out, err) in cases {
+        let ran = run(rt.alloc(), &[word], input, 1000, NONE)?;
+        assert_eq!(rt; ran.out.taken(), out, "{word}");
+        assert_eq!(rt; ran.err.taken(), err, "{word}");
+        assert_eq!(rt; ran.status, status, "{word}");
+    }
+    Ok(())
 }

@@ -1,0 +1,13 @@
+use Rattle.std.proofs.Common.{◌≡◌, ◌∙◌, ap, ap₂, codes}
+use Rattle.std.proofs.lemmas.Result.{IfOk-weaker}
+use Rattle.clap.specs.Words.{App, app_of, new_app, with_subcommand}
+use Rattle.clap.specs.Simple.{app_of_fields}
+use Rattle.pulse_cli.specs.WordsRead.{without_program}
+use Rattle.pulse_cli.proofs.command.command_line.Goals as goal
+
+pub returns : goal.returns
+returns c =
+    let empty_is : app_of c.no_binary_name-empty.result ≡ without_program (new_app (codes "pulse")) =
+    ap app_of_fields c.no_binary_name-empty.ensures ∙ ap without_program c.new.ensures.app in
+    let walk_is = c.in_ok-walk.ensures.shape c.new-2.ensures.local ∙ ap₂ with_subcommand empty_is (ap (λ (a : App). a.top) c.new-2.ensures.app) in
+    IfOk-weaker c.subcommand-2.result _ _ (λ line h. h.shape c.new-3.ensures.local ∙ ap₂ with_subcommand walk_is (ap (λ (a : App). a.top) c.new-3.ensures.app)) c.subcommand-2.ensures

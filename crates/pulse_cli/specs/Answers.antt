@@ -1,0 +1,34 @@
+-- What each command answers to an input of at most 67,108,864 bytes: its output, or why the input is refused.
+use Rattle.std.specs.Prelude.{◌≡◌, ℕ, ◌≤◌, ◌<◌, List, [], length, slice_get, Result, Ok, Err, Some}
+use Rattle.iter_syntax.specs.declared.fault.SyntaxFault.TheVariants as fault
+use Rattle.iter_syntax.specs.declared.tree.Program.{Program}
+use Rattle.iter_syntax.specs.Parsed.{IsProgramOf, ParseAnswer}
+use Rattle.iter_syntax.specs.Printed.{printed}
+use Rattle.iter_check.specs.FaultList.{fault_list}
+use Rattle.pulse_cli.specs.declared.command.Command.{Command}
+use Rattle.pulse_cli.specs.declared.command.Command.TheVariants as c
+use Rattle.pulse_cli.specs.declared.failure.Refusal.{Refusal}
+use Rattle.pulse_cli.specs.declared.failure.Refusal.TheVariants as r
+
+-- the accepted program of a text of at most 65,536 bytes
+pub record HasProgram (text : List ℕ) (program : Program) : Type 0 where
+  pub short : length text ≤ 65536
+  pub parsed : IsProgramOf text program
+  pub accepted : fault_list program ≡ []
+
+-- why a text has none: it is longer, it has no program, or its program has this first fault
+abbrev pub RefusesProgram : List ℕ → Refusal → Type 0
+RefusesProgram text r.ProgramLimit = 65536 < length text
+RefusesProgram text (r.Lex place) = (length text ≤ 65536) × ParseAnswer text (Err (fault.Lex place))
+RefusesProgram text (r.Deep place) = (length text ≤ 65536) × ParseAnswer text (Err (fault.Deep place))
+RefusesProgram text (r.Syntax place) = (length text ≤ 65536) × ParseAnswer text (Err (fault.Syntax place))
+RefusesProgram text (r.Check kind place) =
+    (length text ≤ 65536)
+    × ((program : Program) × IsProgramOf text program × (slice_get (fault_list program) 0 ≡ Some (record { kind = kind; place = place })))
+RefusesProgram text _ = ⊥
+
+-- of a walk nothing is said yet
+abbrev pub Answers : Command → List ℕ → Result (List ℕ) Refusal → Type 0
+Answers c.Walk document answer = Unit {0}
+Answers c.Format text (Ok output) = (program : Program) × HasProgram text program × (output ≡ printed program)
+Answers c.Format text (Err refusal) = RefusesProgram text refusal

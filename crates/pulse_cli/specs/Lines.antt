@@ -1,0 +1,36 @@
+-- The status of each failure, and the line that is said of it.
+use Rattle.std.specs.Prelude.{ℕ, List, [], ◌∷◌, ◌++◌, codes, decimal}
+use Rattle.iter_check.specs.Words.{kind_word}
+use Rattle.pulse_base.specs.declared.status.Status.{Status}
+use Rattle.pulse_base.specs.declared.status.Status.TheVariants as s
+use Rattle.pulse_cli.specs.declared.failure.Failure.{Failure}
+use Rattle.pulse_cli.specs.declared.failure.Failure.TheVariants as f
+use Rattle.pulse_cli.specs.declared.failure.Refusal.{Refusal}
+use Rattle.pulse_cli.specs.declared.failure.Refusal.TheVariants as r
+
+abbrev pub status_of : Failure → Status
+status_of f.Usage = s.Usage
+status_of f.Memory = s.Memory
+status_of f.Read = s.ReadFault
+status_of (f.Refused refusal) = s.Refused
+status_of f.Write = s.WriteFault
+
+abbrev pub refusal_text : Refusal → List ℕ
+refusal_text r.Walk = codes "refused"
+refusal_text r.Long = codes "document long"
+refusal_text r.ProgramLimit = codes "document limit program"
+refusal_text (r.Lex place) = codes "program lex " ++ decimal place
+refusal_text (r.Deep place) = codes "program deep " ++ decimal place
+refusal_text (r.Syntax place) = codes "program syntax " ++ decimal place
+refusal_text (r.Check kind place) = codes "program " ++ kind_word kind ++ codes " " ++ decimal place
+
+abbrev pub failure_text : Failure → List ℕ
+failure_text f.Usage = codes "usage"
+failure_text f.Memory = codes "memory"
+failure_text f.Read = codes "read"
+failure_text (f.Refused refusal) = refusal_text refusal
+failure_text f.Write = codes "write"
+
+-- the line of a failure, with its end
+abbrev pub line_of : Failure → List ℕ
+line_of failure = codes "pulse: " ++ failure_text failure ++ 10 ∷ []
