@@ -1,0 +1,15 @@
+pub mod Base
+pub mod Init
+pub mod Instructions
+pub mod Long
+pub mod Operators
+pub mod Placed
+pub mod Reached
+pub mod Right
+pub mod Segments
+pub mod Sizes
+pub mod Sound
+pub mod Statements
+pub mod Values
+pub mod Verified
+pub mod Whole

@@ -1,0 +1,5 @@
+pub mod Code
+pub mod Frame
+pub mod Operator
+pub mod Segments
+pub mod Statements
