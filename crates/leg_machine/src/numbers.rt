@@ -15,7 +15,9 @@ fn number_in(bytes: &[u8]) -> u64
     u64::from_le_bytes(all)
 }
 
-// The number in 1, 2 or 4 bytes; any other width counts as 8.
+// The number in 1, 2 or 4 bytes; any other width counts as 8. It stands apart, so that eight bytes are one test.
+#[cold]
+#[inline(never)]
 fn read_narrow(bytes: &[u8], off: u32, w: u8) -> u64
     requires { HasBytes (length bytes.now) off w }
     ensures { number_at bytes.now off w ≡ Some result }
@@ -43,6 +45,8 @@ pub fn read_number(bytes: &[u8], off: u32, w: u8) -> u64
 }
 
 // Stores the low 1, 2 or 4 bytes of a number; any other width counts as 8.
+#[cold]
+#[inline(never)]
 fn store_narrow(bytes: &mut [u8], off: u32, w: u8, value: u64)
     requires { HasBytes (length bytes.old) off w }
     ensures { stored_at bytes.old off w value ≡ Some bytes.new }

@@ -2,7 +2,7 @@
 
 use super::super::{FlatRegion, FlatRegions, FlatState, FlatWalk, can_step, due, run, start};
 use iter_syntax::{FieldDecl, Iter, parse};
-use pulse_base::{Answer, Bytes, FaultKind, Numbers};
+use pulse_base::{Answer, Bytes, FaultKind, Numbers, PadBytes};
 use range_table::RegionSpan;
 use std::alloc::Global;
 use std::test::Fail;
@@ -161,21 +161,19 @@ fn order_of(alloc: Global, count: u32) -> Result<Numbers, Fail> {
     Ok(order)
 }
 
-// Whether the answer that is due is the one that a row says.
-fn is_due(alloc: Global, answer: Option<Answer>, row: &Row) -> Result<bool, Fail> {
-    let made = u64::from(row.steps);
-    match (answer, row.end) {
-        (Some(Answer::Done { pad, count }), End::Done(key, got)) => {
-            let mut want = Bytes::new(alloc);
-            want.append(&key.to_le_bytes())?;
-            want.append(&got.to_le_bytes())?;
-            Ok(pad.bytes() == want.as_slice() && count == made)
+// The answer that a row says is due.
+fn wanted(row: &Row) -> Answer {
+    let count = u64::from(row.steps);
+    match row.end {
+        End::Done(key, got) => {
+            let mut bytes = [0; 16];
+            bytes[..8].copy_from_slice(&key.to_le_bytes());
+            bytes[8..].copy_from_slice(&got.to_le_bytes());
+            let pad = PadBytes::of(&bytes);
+            Answer::Done { pad, count }
         }
-        (Some(Answer::Fault { kind, cur, count }), End::Fault(want, at)) => {
-            Ok(kind == want && cur == at && count == made)
-        }
-        (Some(Answer::Spent { count }), End::Spent) => Ok(count == made),
-        _ => Ok(false),
+        End::Fault(kind, cur) => Answer::Fault { kind, cur, count },
+        End::Spent => Answer::Spent { count },
     }
 }
 
@@ -193,7 +191,7 @@ fn goes_as_said(alloc: Global, fields: &[FieldDecl], iter: &Iter, row: &Row) -> 
     if can_step(&walks, row.limit, &state, 0) {
         return Ok(false);
     }
-    is_due(alloc, due(&walks, row.limit, &state, 0), row)
+    Ok(due(&walks, row.limit, &state, 0) == Some(wanted(row)))
 }
 
 #[test]
