@@ -8,7 +8,7 @@ use Rattle.iter_syntax.specs.Tree.{Ex, Sts, block}
 use Rattle.iter_syntax.specs.Tree as t
 use Rattle.iter_check.specs.Layout.{Slot, text, find_field}
 use Rattle.iter_check.specs.FieldValue.{item_at}
-use Rattle.iter_check.specs.State.{Names, Setting, State}
+use Rattle.iter_check.specs.State.{Names}
 use Rattle.iter_check.specs.Value.{Value, word, value_of}
 use Rattle.iter_unroll.specs.declared.tree.Flat.{Flat}
 use Rattle.iter_unroll.specs.Flat.{Fx, Fs}

@@ -1,10 +1,8 @@
 // The straight code of a whole iterator.
 
-ghost use Rattle.std.specs.Prelude.{◌≡◌, ◌≤◌, ◌<◌, ◌&&◌, nat_lt, bytes_eq, option_map, [], Some, IfOk, length};
-ghost use Rattle.iter_check.specs.Layout.{text};
+ghost use Rattle.std.specs.Prelude.{◌≡◌, ◌≤◌, ◌<◌, [], Some, IfOk, length};
 ghost use Rattle.iter_syntax.specs.Tree.{block};
 ghost use Rattle.iter_check.specs.Layout as l;
-ghost use Rattle.iter_check.specs.FaultList as c;
 ghost use Rattle.iter_unroll.specs.Tree.{fsts};
 ghost use Rattle.iter_unroll.specs.Uses.{flat_uses, iter_uses};
 ghost use Rattle.iter_unroll.specs.Span.{HoldsAll};
@@ -19,47 +17,10 @@ use crate::expr::Shape;
 use crate::refused::Refused;
 use crate::scope::{Meant, Scope};
 use crate::tree::{Flat, FlatBlock};
-use iter_check::{Checked, size_of};
-use iter_syntax::{Arg, Block, FieldDecl, Iter, RecordDecl};
+use iter_check::{Checked, record_fields};
+use iter_syntax::{Arg, Block, Iter};
 use pulse_base::Memory;
 use std::alloc::Global;
-
-// An iterator is on this record, if no other comes first.
-fn is_on(it: &Iter, record: &RecordDecl) -> bool
-    ensures { result ≡ (nat_lt ((record.now).place).0 ((it.now).place).0 && bytes_eq (text (record.now).name) (text (it.now).on)) }
-{
-    let before = record.place.0 < it.place.0;
-    let named = record.name.text.as_slice() == it.on.text.as_slice();
-    before && named
-}
-
-// The record that an iterator is on.
-fn record_for<'a>(records: &'a [RecordDecl], it: &Iter) -> Option<&'a RecordDecl>
-    ensures { option_map (λ r. r.now) result ≡ c.record_for records.now it.now }
-{
-    records.iter().find(|r| is_on(it, r))
-}
-
-// The fields of an iterator's record.
-fn record_fields<'a>(records: &'a [RecordDecl], it: &Iter) -> &'a [FieldDecl]
-    ensures { result.now ≡ c.record_fields records.now it.now }
-{
-    match record_for(records, it) {
-        None => &[],
-        Some(record) => record.fields.as_slice(),
-    }
-}
-
-// The bytes of a record or a pad of at most 256.
-fn size(fields: &[FieldDecl]) -> u16
-    requires { l.size_of fields.now ≤ 256 }
-    ensures { result ≡ l.size_of fields.now }
-{
-    match size_of(fields) {
-        None => unreachable!(),
-        Some(size) => size as u16,
-    }
-}
 
 // The arguments in scope.
 fn with_arguments<'a>(alloc: Global, args: &'a [Arg]) -> Result<Scope<'a>, Memory>
@@ -133,19 +94,19 @@ pub fn unroll(alloc: Global, checked: &Checked, iter: usize) -> Result<Flat, Mem
     ensures uses { Unrolls checked.now iter result (λ fields it flat. flat_uses flat ≡ iter_uses fields it) }
     ensures inside { IfOk result (λ flat. HoldsAll (0, flat.record_size) (flat_uses flat)) }
 {
-    let program = checked.program();
-    let it = program.iters.get(iter);
+    let it = checked.iter(iter);
+    let records = checked.program().records.as_slice();
     let shape = Shape {
-        record_fields: record_fields(program.records.as_slice(), it),
+        record_fields: record_fields(records, it),
         pad_fields: it.pad.as_slice(),
     };
     let init_part = unroll_init(alloc, it)?;
     let end_part = unroll_part(alloc, &shape, &it.end_part)?;
     let next_part = unroll_part(alloc, &shape, &it.next_part)?;
     Ok(Flat {
-        record_size: size(shape.record_fields),
-        pad_size: size(shape.pad_fields),
-        args: it.args.len() as u8,
+        record_size: checked.record_size(iter),
+        pad_size: checked.pad_size(iter),
+        args: checked.arg_count(iter),
         init_part,
         end_part,
         next_part,

@@ -1,5 +1,5 @@
 -- An expression without a fault has straight code, which keeps to what is there and is no deeper.
-use Rattle.std.proofs.Common.{◌≡◌, ℕ, suc, ◌+◌, ◌<◌, ◌≤◌, Bool, true, false, nat_lt, List, [], ◌∷◌, ◌++◌, Option, Some, None, refl, sym, ap, subst, ◌∙◌, arith, le_refl}
+use Rattle.std.proofs.Common.{◌≡◌, ℕ, ◌+◌, ◌≤◌, false, nat_lt, List, [], ◌++◌, Option, Some, None, refl, sym, subst, arith, le_refl}
 use Rattle.std.specs.Prelude.{max, is_none}
 use Rattle.iter_syntax.specs.declared.tree.Place.{Place}
 use Rattle.iter_syntax.specs.declared.tree.Word.{Word}
@@ -24,7 +24,7 @@ use Rattle.iter_unroll.specs.declared.scope.Meant.TheVariants as m
 use Rattle.iter_unroll.specs.Flat.{Fx}
 use Rattle.iter_unroll.specs.Flat as f
 use Rattle.iter_unroll.specs.Limits.{Reach, InReach, depth, Whole}
-use Rattle.iter_unroll.specs.Uses.{Use, element_of}
+use Rattle.iter_unroll.specs.Uses.{element_of}
 use Rattle.iter_unroll.specs.unrolling.Scope.{Env, lookup, Shape, index}
 use Rattle.iter_unroll.specs.unrolling.Flattened.{named, flat_ex}
 use Rattle.iter_unroll.proofs.accepted.Options.{Is, never, is_map, is_two}

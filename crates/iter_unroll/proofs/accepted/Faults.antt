@@ -2,7 +2,6 @@
 use Rattle.std.proofs.Common.{◌≡◌, Bool, true, false, not, ◌||◌, List, [], ◌∷◌, ◌++◌, refl}
 use Rattle.iter_syntax.specs.declared.tree.Place.{Place}
 use Rattle.iter_check.specs.declared.kind.CheckKind.{CheckKind}
-use Rattle.iter_check.specs.declared.kind.Fault.{Fault}
 use Rattle.iter_check.specs.Faults.{fault}
 
 pub first_nil : {A : Type 0} (xs ys : List A) → xs ++ ys ≡ [] → xs ≡ []

@@ -1,7 +1,7 @@
 -- A field that the checker knows has its place, which lies inside the record or the pad.
-use Rattle.std.proofs.Common.{◌≡◌, ℕ, zero, suc, ◌+◌, ◌*◌, ◌<◌, ◌≤◌, Bool, true, false, nat_lt, List, [], ◌∷◌, Option, Some, None, bytes_eq, if◌then◌else◌, refl, sym, ap, subst, ◌∙◌, arith, mul-le-mul_right, zero-add}
+use Rattle.std.proofs.Common.{◌≡◌, ℕ, suc, ◌+◌, ◌*◌, ◌<◌, ◌≤◌, Bool, true, false, nat_lt, List, [], ◌∷◌, Option, Some, None, bytes_eq, if◌then◌else◌, refl, sym, subst, arith, mul-le-mul_right, zero-add}
 use Rattle.std.proofs.lemmas.List.Sums.{sum_by-cons}
-use Rattle.std.specs.Prelude.{⊤, find, is_some, is_none, unwrap_or}
+use Rattle.std.specs.Prelude.{⊤, is_some, is_none, unwrap_or}
 use Rattle.iter_syntax.specs.declared.tree.Word.{Word}
 use Rattle.iter_syntax.specs.declared.tree.FieldDecl.{FieldDecl}
 use Rattle.iter_check.specs.Layout.{Slot, text, width_bytes, elements, field_size, size_of, find_from, find_field}

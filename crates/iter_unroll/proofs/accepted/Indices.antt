@@ -1,5 +1,5 @@
 -- An index without a fault is worth its number in each turn, and that is below the length.
-use Rattle.std.proofs.Common.{◌≡◌, ℕ, zero, suc, ◌+◌, ◌-◌, ◌^◌, ◌<◌, ◌≤◌, Bool, true, false, not, ◌||◌, nat_eq, nat_lt, List, [], ◌∷◌, ◌++◌, Option, Some, None, option_map, option_and_then, IfSome, if◌then◌else◌, refl, sym, ap, ap₂, subst, ◌∙◌, arith, append_assoc}
+use Rattle.std.proofs.Common.{◌≡◌, ℕ, zero, suc, ◌+◌, ◌-◌, ◌^◌, ◌<◌, ◌≤◌, Bool, true, false, ◌||◌, nat_lt, List, [], ◌∷◌, ◌++◌, Option, Some, None, option_map, option_and_then, IfSome, refl, sym, ap, ap₂, subst, ◌∙◌, arith, append_assoc}
 use Rattle.std.proofs.lemmas.List.{append-nil}
 use Rattle.iter_syntax.specs.declared.tree.Place.{Place}
 use Rattle.iter_syntax.specs.declared.tree.Word.{Word}
@@ -8,7 +8,7 @@ use Rattle.iter_syntax.specs.declared.tree.BinaryOp.TheVariants as op
 use Rattle.iter_syntax.specs.Tree.{Ex}
 use Rattle.iter_syntax.specs.Tree as t
 use Rattle.iter_check.specs.Layout.{text}
-use Rattle.iter_check.specs.Value.{Value, Number, Truth, DivZero, word, one, both, apply, binary}
+use Rattle.iter_check.specs.Value.{Value, Number, word, one, both, apply, binary}
 use Rattle.iter_check.specs.declared.sort.Sort.{Sort}
 use Rattle.iter_check.specs.declared.sort.Sort.TheVariants as s
 use Rattle.iter_check.specs.declared.kind.CheckKind.TheVariants as k
@@ -22,7 +22,6 @@ use Rattle.iter_unroll.specs.declared.scope.Meant.{Meant}
 use Rattle.iter_unroll.specs.declared.scope.Meant.TheVariants as m
 use Rattle.iter_unroll.specs.Limits.{Reach}
 use Rattle.iter_unroll.specs.unrolling.Scope.{Env, lookup, map2, turn_number, constant, index}
-use Rattle.iter_unroll.specs.unrolling.Tied.{Never}
 use Rattle.iter_unroll.proofs.accepted.Options.{Is, never}
 use Rattle.iter_unroll.proofs.accepted.Faults.{first_nil, last_nil, right, or_left, or_right, not_false}
 use Rattle.iter_unroll.proofs.accepted.Scopes.{Agrees, turn_index, IsTurn, Knows}

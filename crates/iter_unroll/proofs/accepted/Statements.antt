@@ -1,6 +1,6 @@
 -- Statements without a fault have straight code, which keeps to what is there.
-use Rattle.std.proofs.Common.{◌≡◌, ℕ, zero, suc, ◌+◌, ◌-◌, ◌<◌, ◌≤◌, Bool, true, false, not, ◌||◌, nat_lt, List, [], ◌∷◌, ◌++◌, Option, Some, None, refl, sym, ap, subst, ◌∙◌, arith, le_refl}
-use Rattle.std.specs.Prelude.{nat_le, is_some}
+use Rattle.std.proofs.Common.{◌≡◌, ℕ, zero, suc, ◌+◌, ◌-◌, ◌<◌, ◌≤◌, Bool, true, false, List, [], ◌∷◌, ◌++◌, Option, Some, None, refl, sym, subst, ◌∙◌, arith, le_refl}
+use Rattle.std.specs.Prelude.{nat_le}
 use Rattle.iter_syntax.specs.declared.tree.Place.{Place}
 use Rattle.iter_syntax.specs.declared.tree.Word.{Word}
 use Rattle.iter_syntax.specs.Tree.{Ex, Sts}
@@ -13,9 +13,9 @@ use Rattle.iter_check.specs.declared.kind.Fault.{Fault}
 use Rattle.iter_check.specs.declared.scope.Binding.{Binding}
 use Rattle.iter_check.specs.declared.loops.Loop.{Loop}
 use Rattle.iter_check.specs.Faults.{fault}
-use Rattle.iter_check.specs.Scope.{Scope, Ground, bound, bind, declared_field}
-use Rattle.iter_check.specs.Typing.{in_init, differ, is_bool, sort_of}
-use Rattle.iter_check.specs.Expressions.{place_of, plain_faults, item_faults, expr_faults}
+use Rattle.iter_check.specs.Scope.{Scope, Ground, bound, bind}
+use Rattle.iter_check.specs.Typing.{is_bool, sort_of}
+use Rattle.iter_check.specs.Expressions.{place_of, expr_faults}
 use Rattle.iter_check.specs.Scoping.{again, lets, let_sort, is_let, target_sort, whole, wanted, store, turns_faults, scoping}
 use Rattle.iter_check.specs.Indices.{index_fault, expr_indices, loop_of, indices}
 use Rattle.iter_unroll.specs.declared.scope.Meant.{Meant}
@@ -23,11 +23,11 @@ use Rattle.iter_unroll.specs.declared.scope.Meant.TheVariants as m
 use Rattle.iter_unroll.specs.Flat.{Fx, Fs}
 use Rattle.iter_unroll.specs.Flat as f
 use Rattle.iter_unroll.specs.Limits.{Reach, Whole, Keeps}
-use Rattle.iter_unroll.specs.Uses.{Use, element_of}
+use Rattle.iter_unroll.specs.Uses.{element_of}
 use Rattle.iter_unroll.specs.unrolling.Scope.{Env, lookup, Shape, index}
 use Rattle.iter_unroll.specs.unrolling.Flattened.{flat_ex, join, let_slot, flat_turns, flat_of}
 use Rattle.iter_unroll.proofs.accepted.Options.{Is, never, is_map, is_two, is_three, is_four, is_roomy}
-use Rattle.iter_unroll.proofs.accepted.Faults.{first_nil, last_nil, right, or_left, or_right, not_false}
+use Rattle.iter_unroll.proofs.accepted.Faults.{first_nil, last_nil, right, not_false}
 use Rattle.iter_unroll.proofs.accepted.Scopes.{Agrees, Knows, know_let, know_turn, no_name}
 use Rattle.iter_unroll.proofs.accepted.Fields.{Inside}
 use Rattle.iter_unroll.proofs.accepted.Expressions.{Stands, item_right, pad_plain, cur_plain, pad_item, cur_item, cur_plain_right, cur_item_right, kept_whole}

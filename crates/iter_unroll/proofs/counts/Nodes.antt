@@ -1,5 +1,5 @@
 -- Straight code has at most the nodes of the text.
-use Rattle.std.proofs.Common.{◌≡◌, ℕ, suc, ◌+◌, ◌≤◌, Option, Some, None, IfSome, le_refl, arith}
+use Rattle.std.proofs.Common.{◌≤◌, Option, Some, None, IfSome, le_refl, arith}
 use Rattle.iter_syntax.specs.Tree.{Ex, Sts}
 use Rattle.iter_syntax.specs.Tree as t
 use Rattle.iter_check.specs.Layout.{text}

@@ -1,17 +1,15 @@
 -- Straight code has at most the nodes of the text, and uses just the fields of the record that the text uses.
-use Rattle.std.proofs.Common.{◌≡◌, ℕ, zero, suc, ◌+◌, ◌-◌, ◌*◌, ◌≤◌, List, [], ◌∷◌, ◌++◌, Option, Some, None, IfSome, refl, sym, ap, ap₂, ◌∙◌, arith, append_assoc, zero-le, le_refl}
-use Rattle.iter_syntax.specs.declared.tree.FieldDecl.{FieldDecl}
+use Rattle.std.proofs.Common.{◌≡◌, ℕ, zero, suc, ◌+◌, ◌-◌, ◌*◌, ◌≤◌, List, [], ◌∷◌, ◌++◌, Option, Some, None, IfSome, refl, sym, ap, ap₂, ◌∙◌, arith, append_assoc, zero-le}
 use Rattle.iter_syntax.specs.Tree.{Ex, Sts}
 use Rattle.iter_syntax.specs.Tree as t
 use Rattle.iter_check.specs.Layout.{text}
-use Rattle.iter_check.specs.State.{Names}
 use Rattle.iter_check.specs.Value.{word}
-use Rattle.iter_check.specs.Nodes.{expr_nodes, nodes}
+use Rattle.iter_check.specs.Nodes.{nodes}
 use Rattle.iter_unroll.specs.declared.scope.Meant.TheVariants as m
 use Rattle.iter_unroll.specs.Flat.{Fx, Fs}
 use Rattle.iter_unroll.specs.Flat as f
-use Rattle.iter_unroll.specs.Limits.{fx_nodes, fs_nodes}
-use Rattle.iter_unroll.specs.Uses.{Use, fx_uses, fs_uses, element_of, index_value, listed, ex_uses, each_turn, sts_uses}
+use Rattle.iter_unroll.specs.Limits.{fs_nodes}
+use Rattle.iter_unroll.specs.Uses.{Use, fx_uses, fs_uses, element_of, index_value, listed, each_turn, sts_uses}
 use Rattle.iter_unroll.specs.unrolling.Scope.{Env, lookup, Shape, index}
 use Rattle.iter_unroll.specs.unrolling.Flattened.{flat_ex, join, let_slot, flat_turns, flat_of}
 use Rattle.iter_unroll.proofs.meaning.Options.{if_map, if_two, if_three, if_four, if_roomy}

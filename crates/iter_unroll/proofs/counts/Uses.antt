@@ -1,21 +1,20 @@
 -- Straight code uses just the fields of the record that the text uses, turn by turn.
-use Rattle.std.proofs.Common.{◌≡◌, ℕ, zero, suc, ◌+◌, ◌-◌, ◌^◌, nat_eq, Bool, true, false, List, [], ◌∷◌, ◌++◌, bytes_eq, if◌then◌else◌, Option, Some, None, IfSome, nat_lt, refl, sym, ap, ap₂, ◌∙◌, append_assoc}
+use Rattle.std.proofs.Common.{◌≡◌, ℕ, ◌-◌, ◌^◌, nat_eq, Bool, true, false, List, [], ◌∷◌, ◌++◌, bytes_eq, if◌then◌else◌, Option, Some, None, IfSome, refl, sym, ap, ap₂, ◌∙◌}
 use Rattle.iter_syntax.specs.declared.tree.Word.{Word}
-use Rattle.iter_syntax.specs.declared.tree.Width.{Width}
 use Rattle.iter_syntax.specs.declared.tree.FieldDecl.{FieldDecl}
 use Rattle.iter_syntax.specs.Tree.{Ex, Sts}
 use Rattle.iter_syntax.specs.Tree as t
-use Rattle.iter_check.specs.Layout.{Slot, text, find_field}
+use Rattle.iter_check.specs.Layout.{text, find_field}
 use Rattle.iter_check.specs.State.{Names, look}
 use Rattle.iter_check.specs.Value.{Value, Number, Truth, word, one, binary}
 use Rattle.iter_unroll.specs.declared.scope.Meant.{Meant}
 use Rattle.iter_unroll.specs.declared.scope.Meant.TheVariants as m
 use Rattle.iter_unroll.specs.Flat.{Fx, Fs}
 use Rattle.iter_unroll.specs.Flat as f
-use Rattle.iter_unroll.specs.Uses.{Use, fx_uses, fs_uses, element, element_of, index_value, listed, ex_uses, each_turn, sts_uses}
+use Rattle.iter_unroll.specs.Uses.{Use, fx_uses, element, element_of, index_value, listed, ex_uses}
 use Rattle.iter_unroll.specs.unrolling.Scope.{Env, lookup, Shape, turn_number, constant, index}
-use Rattle.iter_unroll.specs.unrolling.Flattened.{named, flat_ex, join, let_slot, flat_turns, flat_of}
-use Rattle.iter_unroll.proofs.meaning.Options.{if_map, if_then, if_two, if_three, if_four, if_roomy}
+use Rattle.iter_unroll.specs.unrolling.Flattened.{named, flat_ex}
+use Rattle.iter_unroll.proofs.meaning.Options.{if_map, if_then, if_two}
 
 -- the loop variables in scope with their numbers
 abbrev pub turn_of : Env → Names

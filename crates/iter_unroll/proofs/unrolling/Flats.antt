@@ -10,7 +10,6 @@ use Rattle.iter_unroll.specs.declared.tree.FlatExpr.{FlatExpr}
 use Rattle.iter_unroll.specs.declared.tree.FlatStmt.{FlatStmt, the_lemmas}
 use Rattle.iter_unroll.specs.declared.tree.FlatStmt.TheVariants as T
 use Rattle.iter_unroll.specs.Flat.{Fx, Fs}
-use Rattle.iter_unroll.specs.unrolling.Flattened.{join}
 use Rattle.iter_unroll.specs.Flat as f
 use Rattle.iter_unroll.specs.declared.scope.Meant.TheVariants as m
 use Rattle.iter_unroll.specs.Uses.{element_of}

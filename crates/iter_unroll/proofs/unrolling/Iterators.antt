@@ -1,74 +1,67 @@
 -- An accepted iterator and the straight code of its three parts.
-use Rattle.std.proofs.Common.{◌≡◌, ℕ, ◌+◌, ◌≤◌, Bool, List, [], ◌∷◌, ◌++◌, length, slice_get, replicate, Option, Some, None, IfSome, refl, sym, ap, ap₂, subst, ◌∙◌, arith}
-use Rattle.std.specs.Prelude.{⊤}
-use Rattle.iter_syntax.specs.declared.tree.Word.{Word}
+use Rattle.std.proofs.Common.{◌≡◌, ℕ, ◌≤◌, List, [], ◌∷◌, ◌++◌, length, slice_get, Option, Some, None, option_map, IfSome, sym, ap, ap₂, subst, ◌∙◌, arith}
 use Rattle.iter_syntax.specs.declared.tree.FieldDecl.{FieldDecl}
 use Rattle.iter_syntax.specs.declared.tree.RecordDecl.{RecordDecl}
 use Rattle.iter_syntax.specs.declared.tree.Iter.{Iter}
 use Rattle.iter_syntax.specs.declared.tree.Program.{Program}
 use Rattle.iter_syntax.specs.Tree.{Sts, block}
-use Rattle.iter_check.specs.Layout.{size_of, width_bytes}
-use Rattle.iter_check.specs.Nodes.{nodes}
-use Rattle.iter_check.specs.FaultList.{record_fields, init_nodes, body_nodes, fault_list}
-use Rattle.iter_check.specs.Iteration.{iteration, begin}
+use Rattle.iter_check.specs.Layout.{size_of}
+use Rattle.iter_check.specs.FaultList.{record_fields}
+use Rattle.iter_check.specs.Accepted.{AcceptedIter}
 use Rattle.iter_unroll.specs.declared.tree.Flat.{Flat}
 use Rattle.iter_unroll.specs.Flat.{Fx, Fs, flat_iteration, flat_begin}
 use Rattle.iter_unroll.specs.Flat as f
 use Rattle.iter_unroll.specs.Tree.{fsts}
-use Rattle.iter_unroll.specs.Limits.{Reach, init_reach, body_reach, InReach, Whole, Keeps, fs_nodes}
-use Rattle.iter_unroll.specs.Uses.{Use, fx_uses, fs_uses, flat_uses, sts_uses, iter_uses}
+use Rattle.iter_unroll.specs.Limits.{Reach, init_reach, body_reach, InReach, Keeps}
+use Rattle.iter_unroll.specs.Uses.{Use, fx_uses, fs_uses, flat_uses, iter_uses}
 use Rattle.iter_unroll.specs.Span.{HoldsAll}
 use Rattle.iter_unroll.specs.Unrolled.{HasSizes, SmallSizes, Iterates, Begins, KeepsAll, FewNodes}
 use Rattle.iter_unroll.specs.unrolling.Scope.{Env, Shape}
 use Rattle.iter_unroll.specs.unrolling.Flattened.{flat_of}
-use Rattle.iter_unroll.specs.unrolling.Tied.{Never}
 use Rattle.iter_unroll.specs.unrolling.Whole.{arguments, shape, IsThere}
 use Rattle.iter_unroll.proofs.meaning.Whole.{iteration_is, begin_is}
-use Rattle.iter_unroll.proofs.counts.Uses.{turn_of}
 use Rattle.iter_unroll.proofs.counts.Statements.{Counted, counted}
-use Rattle.iter_unroll.proofs.accepted.Options.{Is, never}
-use Rattle.iter_unroll.proofs.accepted.Programs.{IterRight, accepted, init_room, body_room, init_kept, end_kept, next_kept}
+use Rattle.iter_unroll.proofs.accepted.Options.{Is}
+use Rattle.iter_unroll.proofs.accepted.Programs.{init_room, body_room, init_kept, end_kept, next_kept}
 
 -- what is known of the iterator of a number
 pub record Known (p : Program) (i : ℕ) (it : Iter) (fields : List FieldDecl) : Type 0 where
-  pub right : IterRight p.records it
+  pub right : AcceptedIter p it
   pub same : (x : Iter) → slice_get p.iters i ≡ Some x → x ≡ it
   pub fields_are : fields ≡ record_fields p.records it
 
 some_is : {A : Type 0} {x y : A} → Some x ≡ Some y → x ≡ y
 some_is e = cc
 
-pub known : (p q : Program) (i : ℕ) (it : Iter) (records : List RecordDecl) (fields : List FieldDecl) → q ≡ p → fault_list p ≡ [] → slice_get q.iters i ≡ Some it → records ≡ q.records → fields ≡ record_fields records it → Known p i it fields
-known p q i it records fields e a h r g =
-    let at : slice_get p.iters i ≡ Some it = ap (λ (x : Program). slice_get x.iters i) (sym e) ∙ h in
-    record {
-      right = accepted p i it a at;
-      same = λ x k. some_is (sym k ∙ at);
-      fields_are = g ∙ ap (λ l. record_fields l it) r ∙ ap (λ (x : Program). record_fields x.records it) e;
-    }
+pub known : (p : Program) (i : ℕ) (it : Iter) (records : List RecordDecl) (fields : List FieldDecl) → AcceptedIter p it → slice_get p.iters i ≡ Some it → records ≡ p.records → fields ≡ record_fields records it → Known p i it fields
+known p i it records fields a h r g = record { right = a; same = λ x k. some_is (sym k ∙ h); fields_are = g ∙ ap (λ l. record_fields l it) r }
+
+-- what is read of the iterator of a number
+pub read_is : (f : Iter → ℕ) (o : Option Iter) (it : Iter) (n : ℕ) → o ≡ Some it → option_map f o ≡ Some n → n ≡ f it
+read_is f o it n e h = sym (some_is (ap (option_map f) (sym e) ∙ h))
 
 there : (P : Fs → Type 0) (o : Option Fs) → Is o P → IsThere o
 there P None h = h
 there P (Some b) h = tt
 
 pub init_there : (p : Program) (i : ℕ) (it : Iter) (fields : List FieldDecl) → Known p i it fields → IsThere (flat_of (shape [] it) 0 (arguments 0 it.args []) (block it.init_part))
-init_there p i it fields k = there _ _ (init_kept p.records it k.right)
+init_there p i it fields k = there _ _ (init_kept p it k.right)
 
 pub end_there : (p : Program) (i : ℕ) (it : Iter) (fields pads : List FieldDecl) → pads ≡ it.pad → Known p i it fields → IsThere (flat_of (record { record_fields = fields; pad_fields = pads }) 0 [] (block it.end_part))
 end_there p i it fields pads e k =
     subst (λ l. IsThere (flat_of (record { record_fields = fields; pad_fields = l }) 0 [] (block it.end_part))) (sym e)
-    (subst (λ l. IsThere (flat_of (shape l it) 0 [] (block it.end_part))) (sym k.fields_are) (there _ _ (end_kept p.records it k.right)))
+    (subst (λ l. IsThere (flat_of (shape l it) 0 [] (block it.end_part))) (sym k.fields_are) (there _ _ (end_kept p it k.right)))
 
 pub next_there : (p : Program) (i : ℕ) (it : Iter) (fields pads : List FieldDecl) → pads ≡ it.pad → Known p i it fields → IsThere (flat_of (record { record_fields = fields; pad_fields = pads }) 0 [] (block it.next_part))
 next_there p i it fields pads e k =
     subst (λ l. IsThere (flat_of (record { record_fields = fields; pad_fields = l }) 0 [] (block it.next_part))) (sym e)
-    (subst (λ l. IsThere (flat_of (shape l it) 0 [] (block it.next_part))) (sym k.fields_are) (there _ _ (next_kept p.records it k.right)))
+    (subst (λ l. IsThere (flat_of (shape l it) 0 [] (block it.next_part))) (sym k.fields_are) (there _ _ (next_kept p it k.right)))
 
 pub fields_small : (p : Program) (i : ℕ) (it : Iter) (fields : List FieldDecl) → Known p i it fields → size_of fields ≤ 256
-fields_small p i it fields k = let s = k.right.record_size.small in subst (λ l. size_of l ≤ 256) (sym k.fields_are) s
+fields_small p i it fields k = let s = k.right.record_size.1 in subst (λ l. size_of l ≤ 256) (sym k.fields_are) s
 
 pub fields_some : (p : Program) (i : ℕ) (it : Iter) (fields : List FieldDecl) → Known p i it fields → 1 ≤ size_of fields
-fields_some p i it fields k = let s = k.right.record_size.some in subst (λ l. 1 ≤ size_of l) (sym k.fields_are) s
+fields_some p i it fields k = let s = k.right.record_size.0 in subst (λ l. 1 ≤ size_of l) (sym k.fields_are) s
 
 -- the straight code that was made
 pub record Made (fields : List FieldDecl) (it : Iter) (flat : Flat) : Type 0 where
@@ -78,6 +71,9 @@ pub record Made (fields : List FieldDecl) (it : Iter) (flat : Flat) : Type 0 whe
   pub record_is : flat.record_size ≡ size_of fields
   pub pad_is : flat.pad_size ≡ size_of it.pad
   pub args_are : flat.args ≡ length it.args
+
+pub has_sizes : (fields : List FieldDecl) (it : Iter) (flat : Flat) → Made fields it flat → HasSizes fields it flat
+has_sizes fields it flat m = (m.record_is, m.pad_is, m.args_are)
 
 pub iterates : (fields : List FieldDecl) (it : Iter) (flat : Flat) → Made fields it flat → Iterates fields it flat
 iterates fields it flat m bytes cur pad writable =
@@ -102,9 +98,9 @@ body_room_is fields it flat r p = ap₂ (λ n s. record { args = 0; record_size 
 
 pub keeps_all : (p : Program) (i : ℕ) (it : Iter) (fields : List FieldDecl) (flat : Flat) → Known p i it fields → Made fields it flat → KeepsAll flat
 keeps_all p i it fields flat k m =
-    let a = subst (λ r. Is (flat_of (shape [] it) 0 (arguments 0 it.args []) (block it.init_part)) (Keeps r)) (init_room_is it flat m.pad_is m.args_are) (init_kept p.records it k.right) in
-    let e = subst (λ l. Is (flat_of (shape l it) 0 [] (block it.end_part)) (Keeps (body_room l it))) (sym k.fields_are) (end_kept p.records it k.right) in
-    let n = subst (λ l. Is (flat_of (shape l it) 0 [] (block it.next_part)) (Keeps (body_room l it))) (sym k.fields_are) (next_kept p.records it k.right) in
+    let a = subst (λ r. Is (flat_of (shape [] it) 0 (arguments 0 it.args []) (block it.init_part)) (Keeps r)) (init_room_is it flat m.pad_is m.args_are) (init_kept p it k.right) in
+    let e = subst (λ l. Is (flat_of (shape l it) 0 [] (block it.end_part)) (Keeps (body_room l it))) (sym k.fields_are) (end_kept p it k.right) in
+    let n = subst (λ l. Is (flat_of (shape l it) 0 [] (block it.next_part)) (Keeps (body_room l it))) (sym k.fields_are) (next_kept p it k.right) in
     let room = body_room_is fields it flat m.record_is m.pad_is in (
       of_made (Keeps (init_reach flat)) _ (fsts flat.init_part) m.init_is a,
       of_made (Keeps (body_reach flat)) _ (fsts flat.end_part) m.end_is (subst (λ r. Is (flat_of (shape fields it) 0 [] (block it.end_part)) (Keeps r)) room e),
@@ -119,8 +115,8 @@ few_nodes p i it fields flat k m =
     let a = (counted_in (shape [] it) (arguments 0 it.args []) (block it.init_part) (fsts flat.init_part) m.init_is).few in
     let e = (counted_in (shape fields it) [] (block it.end_part) (fsts flat.end_part) m.end_is).few in
     let n = (counted_in (shape fields it) [] (block it.next_part) (fsts flat.next_part) m.next_is).few in
-    let init = k.right.init_few in
-    let body = k.right.body_few in
+    let init = k.right.init_nodes in
+    let body = k.right.body_nodes in
     (omega (arith, a, init), omega (arith, e, n, body))
 
 pub uses_are : (fields : List FieldDecl) (it : Iter) (flat : Flat) → Made fields it flat → flat_uses flat ≡ iter_uses fields it
@@ -170,9 +166,9 @@ pub small_sizes : (p : Program) (i : ℕ) (it : Iter) (fields : List FieldDecl) 
 small_sizes p i it fields flat k m =
     let a = fields_some p i it fields k in
     let b = fields_small p i it fields k in
-    let c = k.right.pad_size.some in
-    let d = k.right.pad_size.small in
-    let e = k.right.few_args in
+    let c = k.right.pad_size.0 in
+    let d = k.right.pad_size.1 in
+    let e = k.right.args in
     let r = m.record_is in
     let q = m.pad_is in
     let n = m.args_are in
@@ -184,19 +180,19 @@ of_iter p i it x fields Q k h q =
     subst (λ y. Q (record_fields p.records y) y) (sym (k.same x h)) (subst (λ l. Q l it) k.fields_are q)
 
 pub pads_small : (p : Program) (i : ℕ) (it : Iter) (fields pads : List FieldDecl) → pads ≡ it.pad → Known p i it fields → size_of pads ≤ 256
-pads_small p i it fields pads e k = let s = k.right.pad_size.small in subst (λ l. size_of l ≤ 256) (sym e) s
+pads_small p i it fields pads e k = let s = k.right.pad_size.1 in subst (λ l. size_of l ≤ 256) (sym e) s
 
 pub made : (p : Program) (i : ℕ) (it : Iter) (fields pads : List FieldDecl) (flat : Flat) → pads ≡ it.pad
     → flat_of (shape [] it) 0 (arguments 0 it.args []) (block it.init_part) ≡ Some (fsts flat.init_part)
     → flat_of (record { record_fields = fields; pad_fields = pads }) 0 [] (block it.end_part) ≡ Some (fsts flat.end_part)
     → flat_of (record { record_fields = fields; pad_fields = pads }) 0 [] (block it.next_part) ≡ Some (fsts flat.next_part)
-    → flat.record_size ≡ size_of fields → flat.pad_size ≡ size_of pads → flat.args ≡ length it.args → Made fields it flat
+    → flat.record_size ≡ size_of fields → flat.pad_size ≡ size_of it.pad → flat.args ≡ length it.args → Made fields it flat
 made p i it fields pads flat e hi he hn hr hp ha =
     record {
       init_is = hi;
       end_is = ap (λ l. flat_of (record { record_fields = fields; pad_fields = l }) 0 [] (block it.end_part)) (sym e) ∙ he;
       next_is = ap (λ l. flat_of (record { record_fields = fields; pad_fields = l }) 0 [] (block it.next_part)) (sym e) ∙ hn;
       record_is = hr;
-      pad_is = hp ∙ ap size_of e;
+      pad_is = hp;
       args_are = ha;
     }

@@ -1,9 +1,6 @@
 -- Names that come in scope and go out of it.
-use Rattle.std.proofs.Common.{◌≡◌, ℕ, zero, suc, ◌+◌, ◌-◌, ◌<◌, ◌≤◌, List, [], ◌∷◌, ◌++◌, length, get_or, take, drop, map, reverse, refl, sym, ap, ◌∙◌, arith, length-append, length-drop}
-use Rattle.std.proofs.lemmas.List.{reverse-append, length-reverse, length-map, take_more, take_all, map-append, take-append-drop}
-use Rattle.iter_syntax.specs.declared.tree.Word.{Word}
-use Rattle.iter_check.specs.Layout.{text}
-use Rattle.iter_unroll.specs.declared.scope.Meant.{Meant}
+use Rattle.std.proofs.Common.{◌≡◌, ℕ, ◌+◌, ◌-◌, ◌<◌, List, [], ◌∷◌, ◌++◌, length, get_or, take, drop, map, reverse, refl, sym, ap, ◌∙◌, length-drop}
+use Rattle.std.proofs.lemmas.List.{reverse-append, length-reverse, length-map, take_more, map-append, take-append-drop}
 use Rattle.iter_unroll.specs.declared.scope.Entry.{Entry}
 use Rattle.iter_unroll.specs.unrolling.Views.{entry_of, env_of}
 

@@ -1,5 +1,5 @@
 -- The names before a turn, in which its variable came first.
-use Rattle.std.proofs.Common.{◌≡◌, ℕ, zero, suc, ◌-◌, ◌≤◌, ◌∙◌, sym, List, [], ◌∷◌, length, drop, map, reverse, ap, arith}
+use Rattle.std.proofs.Common.{◌≡◌, ℕ, zero, suc, ◌-◌, ◌≤◌, ◌∙◌, sym, List, [], ◌∷◌, length, drop, reverse, ap, arith}
 use Rattle.std.proofs.lemmas.List.{length-map, length-reverse}
 use Rattle.iter_unroll.specs.declared.scope.Meant.{Meant}
 use Rattle.iter_unroll.specs.declared.scope.Entry.{Entry}

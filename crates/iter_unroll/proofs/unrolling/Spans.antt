@@ -12,7 +12,7 @@ use Rattle.iter_unroll.specs.Flat as f
 use Rattle.iter_unroll.specs.Tree.{fx, fst, fsts, fst_step}
 use Rattle.iter_unroll.specs.Limits.{fx_nodes, fs_nodes}
 use Rattle.iter_unroll.specs.Uses.{Use, fx_uses, fs_uses}
-use Rattle.iter_unroll.specs.Span.{Holds, HoldsAll, LiesIn, IsSpan}
+use Rattle.iter_unroll.specs.Span.{HoldsAll, IsSpan}
 use Rattle.iter_unroll.specs.unrolling.Tied.{Never}
 use Rattle.iter_unroll.specs.unrolling.Bounds.{wider, wider_fx, wider_fs}
 use Rattle.iter_unroll.proofs.accepted.Options.{never}

@@ -1,5 +1,5 @@
 -- What the names of a program stand for while it is written out as straight code.
-use Rattle.std.specs.Prelude.{ℕ, zero, ◌-◌, ◌^◌, nat_eq, List, [], ◌∷◌, bytes_eq, if◌then◌else◌, Option, Some, None, option_map, option_and_then}
+use Rattle.std.specs.Prelude.{ℕ, ◌-◌, ◌^◌, nat_eq, List, [], ◌∷◌, bytes_eq, if◌then◌else◌, Option, Some, None, option_map, option_and_then}
 use Rattle.iter_syntax.specs.declared.tree.FieldDecl.{FieldDecl}
 use Rattle.iter_syntax.specs.Tree.{Ex}
 use Rattle.iter_syntax.specs.Tree as t

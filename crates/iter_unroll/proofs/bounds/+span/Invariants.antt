@@ -1,4 +1,4 @@
-use Rattle.std.proofs.Common.{◌≡◌, ℕ, ◌+◌, ◌*◌, ◌≤◌, drop}
+use Rattle.std.proofs.Common.{◌≡◌, ◌+◌, ◌*◌, ◌≤◌, drop}
 use Rattle.iter_unroll.specs.Flat.{end}
 use Rattle.iter_unroll.specs.Tree.{fst, fsts}
 use Rattle.iter_unroll.specs.Limits.{fs_nodes}

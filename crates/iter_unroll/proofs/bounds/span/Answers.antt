@@ -1,4 +1,4 @@
-use Rattle.std.proofs.Common.{◌≡◌, ℕ, ◌+◌, ◌≤◌, ◌∙◌, ap, sym, subst, refl, arith, Option, Some, None}
+use Rattle.std.proofs.Common.{ap, sym, subst, refl, arith, Some, None}
 use Rattle.iter_unroll.specs.Tree.{fsts}
 use Rattle.iter_unroll.specs.Uses.{flat_uses}
 use Rattle.iter_unroll.specs.Span.{IsSpan}

@@ -1,4 +1,4 @@
-use Rattle.std.proofs.Common.{◌≡◌, ◌*◌, arith}
+use Rattle.std.proofs.Common.{arith}
 use Rattle.iter_unroll.proofs.unrolling.Elements.{element_at}
 use Rattle.iter_unroll.proofs.field.element.Goals as goal
 

@@ -1,4 +1,4 @@
-use Rattle.std.proofs.Common.{◌≡◌, ℕ, ◌≤◌, length, take}
+use Rattle.std.proofs.Common.{◌≡◌, ◌≤◌, length, take}
 use Rattle.iter_check.specs.Layout.{text}
 use Rattle.iter_unroll.specs.unrolling.Scope.{lookup}
 use Rattle.iter_unroll.specs.unrolling.Views.{env_of}
