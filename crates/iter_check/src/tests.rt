@@ -302,7 +302,7 @@ const PROGRAMS: [&[u8]; 6] = [
 fn a_statement_is_refused_at_its_first_fault(rt: HostRuntime) -> Result<(), Fail> {
     for (statements, kind, at) in STATEMENTS {
         let text = with_statements(rt.alloc(), statements)?;
-        let place = STATEMENTS_AT + at;
+        let place = STATEMENTS_AT.wrapping_add(at);
         assert_eq!(rt;
             answer(&rt, rt.alloc(), text.as_slice()),
             Err(CheckError::Fault { kind, place })
