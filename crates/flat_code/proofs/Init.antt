@@ -43,8 +43,8 @@ init_right b args pad all fit =
     let there = 1 + sts_len b in
     let long = length_args args in
     let began : run_init (init_code (length args) b) args pad ≡ run 1 (cb ++ Return ∷ []) (at s1 1 regs) =
-        here_is 0 (Load 0 (8 * length args)) (cb ++ Return ∷ []) s0 regs
-        ∙ ap (λ c. follow (given c (On (at s1 1 regs))) (run 1 (cb ++ Return ∷ []))) (le-leb (0 + 8 * length args) (length (argument_bytes args)) (omega (arith, long))) in
+    here_is 0 (Load 0 (8 * length args)) (cb ++ Return ∷ []) s0 regs
+    ∙ ap (λ c. follow (given c (On (at s1 1 regs))) (run 1 (cb ++ Return ∷ []))) (le-leb (0 + 8 * length args) (length (argument_bytes args)) (omega (arith, long))) in
     let zeros : length (replicate pad 0) ≡ pad = length-replicate pad 0 in
     let agrees : Agrees f g a s1 = record {
       window = refl;

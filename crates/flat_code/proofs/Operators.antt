@@ -30,14 +30,14 @@ puts_word i (Some v) e h d t post s regs regs2 lt long k q is = puts i e h d t v
 pub compute_right : (i : ℕ → ℕ → ℕ → Instr) (f : ℕ → ℕ → Option ℕ) → Computes i f → (ha hb : ℕ) (slots : List ℕ) (s : State) (a b : Code) (oa ob : Option ℕ) → Right ha slots s a oa → Right hb slots s b ob → Right (max ha (hb + 1)) slots s (compute i a b) (both_word f oa ob)
 compute_right i f is ha hb slots s a b oa ob ra rb =
     by_value_right (max ha (hb + 1)) slots s _ (operand_len a + operand_len b + 1) (both_word f oa ob)
-        (λ d t here post regs tied low room le.
-            let two = two_code a b t here in
-            let j = i d (operand a.home t) (operand b.home (t + 1)) in
-            let q : here + operand_len a + operand_len b + 1 ≡ here + length (two ++ j ∷ []) = omega (arith, two_length a b ra.long rb.long t here j) in
-            word_from _ _ _ _ d d t post s regs (both_word f oa ob) (ap (λ l. run here l (at s here regs)) (append_assoc two (j ∷ []) post)) q
-                (two_right ha hb slots s a b oa ob ra rb f t here (j ∷ post) regs _ tied low (omega arith) (omega arith)
-                    (λ x y regs2 e hx hy k tied2. puts_word j (f x y) _ _ d t post s regs regs2 (omega arith) tied2.long k e (is d _ _ x y _ (omega (arith, tied2.long)) hx hy))))
-        (λ d t here. two_length a b ra.long rb.long t here (i d (operand a.home t) (operand b.home (t + 1))))
+    (λ d t here post regs tied low room le.
+    let two = two_code a b t here in
+    let j = i d (operand a.home t) (operand b.home (t + 1)) in
+    let q : here + operand_len a + operand_len b + 1 ≡ here + length (two ++ j ∷ []) = omega (arith, two_length a b ra.long rb.long t here j) in
+    word_from _ _ _ _ d d t post s regs (both_word f oa ob) (ap (λ l. run here l (at s here regs)) (append_assoc two (j ∷ []) post)) q
+    (two_right ha hb slots s a b oa ob ra rb f t here (j ∷ post) regs _ tied low (omega arith) (omega arith)
+    (λ x y regs2 e hx hy k tied2. puts_word j (f x y) _ _ d t post s regs regs2 (omega arith) tied2.long k e (is d _ _ x y _ (omega (arith, tied2.long)) hx hy))))
+    (λ d t here. two_length a b ra.long rb.long t here (i d (operand a.home t) (operand b.home (t + 1))))
 
 -- ---- `~`
 
@@ -48,13 +48,13 @@ one_word f (Some x) = f x
 pub flip_right : (h : ℕ) (slots : List ℕ) (s : State) (a : Code) (o : Option ℕ) → Right h slots s a o → Right h slots s (flip_code a) (one_word (λ x. Some (2 ^ 64 - 1 - x)) o)
 flip_right h slots s a o ra =
     by_value_right h slots s _ (operand_len a + 1) (one_word (λ x. Some (2 ^ 64 - 1 - x)) o)
-        (λ d t here post regs tied low room le.
-            let c = operand_code a t here in
-            let j = Not d (operand a.home t) in
-            let q : here + operand_len a + 1 ≡ here + length (c ++ j ∷ []) = omega (arith, flip_length a ra.long d t here) in
-            word_from _ _ _ _ d d t post s regs (one_word (λ x. Some (2 ^ 64 - 1 - x)) o) (ap (λ l. run here l (at s here regs)) (append_assoc c (j ∷ []) post)) q
-                (flipped o _ (here + operand_len a) (operand a.home t) d t post s slots regs tied (omega arith) (operand_right h slots s a o ra t here (j ∷ post) regs tied low room)))
-        (flip_length a ra.long)
+    (λ d t here post regs tied low room le.
+    let c = operand_code a t here in
+    let j = Not d (operand a.home t) in
+    let q : here + operand_len a + 1 ≡ here + length (c ++ j ∷ []) = omega (arith, flip_length a ra.long d t here) in
+    word_from _ _ _ _ d d t post s regs (one_word (λ x. Some (2 ^ 64 - 1 - x)) o) (ap (λ l. run here l (at s here regs)) (append_assoc c (j ∷ []) post)) q
+    (flipped o _ (here + operand_len a) (operand a.home t) d t post s slots regs tied (omega arith) (operand_right h slots s a o ra t here (j ∷ post) regs tied low room)))
+    (flip_length a ra.long)
   where
     flipped : (o : Option ℕ) (e : End) (h r d t : ℕ) (post : List Instr) (s : State) (slots regs : List ℕ) → Tied slots regs → d < 15 → Leads e o (Word e h r t t (Not d r ∷ post) s regs) → Leads e (one_word (λ x. Some (2 ^ 64 - 1 - x)) o) (Word e (h + 1) d d t post s regs)
     flipped None e h r d t post s slots regs tied lt g = g
@@ -91,19 +91,19 @@ bit_word f x y = Some (bit (f x y))
 pub compare_right : (j : Bool → ℕ → ℕ → ℕ → Instr) (f : ℕ → ℕ → Bool) → Jumps (j true) f → Jumps (j false) (λ x y. not (f x y)) → (ha hb : ℕ) (slots : List ℕ) (s : State) (a b : Code) (oa ob : Option ℕ) → Right ha slots s a oa → Right hb slots s b ob → Right (max ha (hb + 1)) slots s (compare j a b) (both_word (bit_word f) oa ob)
 compare_right j f yes_is no_is ha hb slots s a b oa ob ra rb =
     by_branch_right (max ha (hb + 1)) slots s _ (operand_len a + operand_len b + 1) (both_word (bit_word f) oa ob) (is_bit oa ob)
-        (λ sense to t here post regs tied low room past.
-            let two = two_code a b t here in
-            let k = j sense (operand a.home t) (operand b.home (t + 1)) to in
-            let h2 = here + operand_len a + operand_len b in
-            let q : h2 + 1 ≡ here + (operand_len a + operand_len b + 1) = omega arith in
-            jump_from _ _ sense to _ _ t post s regs (both_word (bit_word f) oa ob) (ap (λ l. run here l (at s here regs)) (append_assoc two (k ∷ []) post)) q
-                (two_right ha hb slots s a b oa ob ra rb (bit_word f) t here (k ∷ post) regs _ tied low (omega arith) (omega arith)
-                    (λ x y regs2 e hx hy kept tied2. record {
-                        after = regs2;
-                        comes = e ∙ here_is h2 k post s regs2 ∙ ap (λ a. follow a (run (h2 + 1) post)) (chosen j f yes_is no_is sense _ _ to x y h2 s regs2 hx hy);
-                        kept = kept;
-                    })))
-        (λ sense to t here. two_length a b ra.long rb.long t here (j sense (operand a.home t) (operand b.home (t + 1)) to))
+    (λ sense to t here post regs tied low room past.
+    let two = two_code a b t here in
+    let k = j sense (operand a.home t) (operand b.home (t + 1)) to in
+    let h2 = here + operand_len a + operand_len b in
+    let q : h2 + 1 ≡ here + (operand_len a + operand_len b + 1) = omega arith in
+    jump_from _ _ sense to _ _ t post s regs (both_word (bit_word f) oa ob) (ap (λ l. run here l (at s here regs)) (append_assoc two (k ∷ []) post)) q
+    (two_right ha hb slots s a b oa ob ra rb (bit_word f) t here (k ∷ post) regs _ tied low (omega arith) (omega arith)
+    (λ x y regs2 e hx hy kept tied2. record {
+      after = regs2;
+      comes = e ∙ here_is h2 k post s regs2 ∙ ap (λ a. follow a (run (h2 + 1) post)) (chosen j f yes_is no_is sense _ _ to x y h2 s regs2 hx hy);
+      kept = kept;
+    })))
+    (λ sense to t here. two_length a b ra.long rb.long t here (j sense (operand a.home t) (operand b.home (t + 1)) to))
   where
     is_bit : (oa ob : Option ℕ) → IsBit (both_word (bit_word f) oa ob)
     is_bit None ob = tt
@@ -115,17 +115,19 @@ compare_right j f yes_is no_is ha hb slots s a b oa ob ra rb =
 pub not_right : (h : ℕ) (slots : List ℕ) (s : State) (a : Code) (o : Option ℕ) → Right h slots s a o → Right h slots s (not_code a) (one_word (λ x. Some (bit (nat_eq x 0))) o)
 not_right h slots s a o ra =
     by_branch_right h slots s _ a.branch_len (one_word (λ x. Some (bit (nat_eq x 0))) o) (is_bit o)
-        (λ sense to t here post regs tied low room past. turned o _ sense to (here + a.branch_len) t post s regs (ra.branch (not sense) to t here post regs tied low room past))
-        (λ sense to t here. ra.long.branch (not sense) to t here)
+    (λ sense to t here post regs tied low room past. turned o _ sense to (here + a.branch_len) t post s regs (ra.branch (not sense) to t here post regs tied low room past))
+    (λ sense to t here. ra.long.branch (not sense) to t here)
   where
     is_bit : (o : Option ℕ) → IsBit (one_word (λ x. Some (bit (nat_eq x 0))) o)
     is_bit None = tt
     is_bit (Some x) = bit_truth (nat_eq x 0)
+
     led_turned : (sense b : Bool) (to there : ℕ) → led (not sense) (not b) to there ≡ led sense (truth (bit b)) to there
     led_turned true true to there = refl
     led_turned true false to there = refl
     led_turned false true to there = refl
     led_turned false false to there = refl
+
     turned : (o : Option ℕ) (e : End) (sense : Bool) (to there t : ℕ) (post : List Instr) (s : State) (regs : List ℕ) → Leads e o (Jump e (not sense) to there t post s regs) → Leads e (one_word (λ x. Some (bit (nat_eq x 0))) o) (Jump e sense to there t post s regs)
     turned None e sense to there t post s regs g = g
     turned (Some x) e sense to there t post s regs g =
@@ -195,27 +197,27 @@ joined_value_right short ha hb slots s a b oa ob ra rb d t here post regs tied l
     let q : past + length mv ≡ here + length (ca ++ (k ∷ (cb ++ mv))) = omega (arith, length-append ca (k ∷ (cb ++ mv)), length-append cb mv) in
     let left : Leads e oa (Word e h1 t t t (k ∷ rest) s regs) = word_from _ e _ h1 t t t (k ∷ rest) s regs oa (ap (λ l. run here l (at s here regs)) flat) (ap (λ n. here + n) la) (ra.value t t here (k ∷ rest) regs tied low (omega arith) (omega arith)) in
     word_from e e (past + length mv) _ d d t post s regs (joined_word short oa ob) refl q
-        (moved (joined_word short oa ob) e past d t post s slots regs tied (omega arith)
-            (joined_by short oa ob e (Word e h1 t t t (k ∷ rest) s regs) (Word e past t t t (mv ++ post) s regs) left
-                (λ x hx g. record {
-                    after = g.after;
-                    comes = stepped short x e h1 past t rest s slots regs tied g
-                        ∙ ap (λ p. run (h1 + 1) rest (at s p g.after)) (led_short short (truth x) past (h1 + 1) hx)
-                        ∙ pass cb (mv ++ post) (h1 + 1) past s g.after (omega arith)
-                        ∙ ap (λ p. run p (mv ++ post) (at s past g.after)) there;
-                    value = g.value;
-                    kept = g.kept;
-                })
-                (λ x hx g.
-                    leads_map _ e ob _ (Word e past t t t (mv ++ post) s regs)
-                        (stepped short x e h1 past t rest s slots regs tied g ∙ ap (λ p. run (h1 + 1) rest (at s p g.after)) (led_long short (truth x) past (h1 + 1) hx))
-                        (λ y w. record {
-                            after = w.after;
-                            comes = stepped short x e h1 past t rest s slots regs tied g ∙ ap (λ p. run (h1 + 1) rest (at s p g.after)) (led_long short (truth x) past (h1 + 1) hx) ∙ w.comes ∙ ap (λ p. run p (mv ++ post) (at s p w.after)) there;
-                            value = w.value;
-                            kept = kept_then t t regs g.after w.after g.kept w.kept;
-                        })
-                        (rb.value t t (h1 + 1) (mv ++ post) g.after (tied_on t t slots regs g.after low low tied g.kept) low (omega arith) (omega arith)))))
+    (moved (joined_word short oa ob) e past d t post s slots regs tied (omega arith)
+    (joined_by short oa ob e (Word e h1 t t t (k ∷ rest) s regs) (Word e past t t t (mv ++ post) s regs) left
+    (λ x hx g. record {
+      after = g.after;
+      comes = stepped short x e h1 past t rest s slots regs tied g
+          ∙ ap (λ p. run (h1 + 1) rest (at s p g.after)) (led_short short (truth x) past (h1 + 1) hx)
+          ∙ pass cb (mv ++ post) (h1 + 1) past s g.after (omega arith)
+          ∙ ap (λ p. run p (mv ++ post) (at s past g.after)) there;
+      value = g.value;
+      kept = g.kept;
+    })
+    (λ x hx g.
+    leads_map _ e ob _ (Word e past t t t (mv ++ post) s regs)
+    (stepped short x e h1 past t rest s slots regs tied g ∙ ap (λ p. run (h1 + 1) rest (at s p g.after)) (led_long short (truth x) past (h1 + 1) hx))
+    (λ y w. record {
+      after = w.after;
+      comes = stepped short x e h1 past t rest s slots regs tied g ∙ ap (λ p. run (h1 + 1) rest (at s p g.after)) (led_long short (truth x) past (h1 + 1) hx) ∙ w.comes ∙ ap (λ p. run p (mv ++ post) (at s p w.after)) there;
+      value = w.value;
+      kept = kept_then t t regs g.after w.after g.kept w.kept;
+    })
+    (rb.value t t (h1 + 1) (mv ++ post) g.after (tied_on t t slots regs g.after low low tied g.kept) low (omega arith) (omega arith)))))
 
 pub target_above : (short sense : Bool) (n to past : ℕ) → n ≤ to → n ≤ past → n ≤ joined_target short sense to past
 target_above true true n to past h k = h
@@ -245,21 +247,21 @@ joined_right short ha hb slots s a b oa ob ra rb = record {
       let above : past ≤ target = target_above short sense past to past (omega arith) (omega arith) in
       let left : Leads e oa (Jump e short target h1 t (cb ++ post) s regs) = jump_from _ e short target h1 h1 t (cb ++ post) s regs oa (ap (λ l. run here l (at s here regs)) (append_assoc ca cb post)) refl (ra.branch short target t here (cb ++ post) regs tied low (omega arith) (omega arith)) in
       jump_from e e sense to past _ t post s regs (joined_word short oa ob) refl q
-          (joined_by short oa ob e (Jump e short target h1 t (cb ++ post) s regs) (Jump e sense to past t post s regs) left
-              (λ x hx g. record {
-                  after = g.after;
-                  comes = g.comes
-                      ∙ ap (λ p. run h1 (cb ++ post) (at s p g.after)) (led_short short (truth x) target h1 hx)
-                      ∙ pass cb post h1 target s g.after (omega arith)
-                      ∙ ap (λ p. run p post (at s target g.after)) there
-                      ∙ ap (λ p. run past post (at s p g.after)) (target_is short sense (truth x) to past hx);
-                  kept = g.kept;
-              })
-              (λ x hx g.
-                  let on = g.comes ∙ ap (λ p. run h1 (cb ++ post) (at s p g.after)) (led_long short (truth x) target h1 hx) in
-                  leads_map _ e ob _ (Jump e sense to past t post s regs) on
-                      (λ y w. record { after = w.after; comes = on ∙ w.comes; kept = kept_then t t regs g.after w.after g.kept w.kept })
-                      (rb.branch sense to t h1 post g.after (tied_on t t slots regs g.after low low tied g.kept) low (omega arith) (omega arith))));
+      (joined_by short oa ob e (Jump e short target h1 t (cb ++ post) s regs) (Jump e sense to past t post s regs) left
+      (λ x hx g. record {
+        after = g.after;
+        comes = g.comes
+            ∙ ap (λ p. run h1 (cb ++ post) (at s p g.after)) (led_short short (truth x) target h1 hx)
+            ∙ pass cb post h1 target s g.after (omega arith)
+            ∙ ap (λ p. run p post (at s target g.after)) there
+            ∙ ap (λ p. run past post (at s p g.after)) (target_is short sense (truth x) to past hx);
+        kept = g.kept;
+      })
+      (λ x hx g.
+      let on = g.comes ∙ ap (λ p. run h1 (cb ++ post) (at s p g.after)) (led_long short (truth x) target h1 hx) in
+      leads_map _ e ob _ (Jump e sense to past t post s regs) on
+      (λ y w. record { after = w.after; comes = on ∙ w.comes; kept = kept_then t t regs g.after w.after g.kept w.kept })
+      (rb.branch sense to t h1 post g.after (tied_on t t slots regs g.after low low tied g.kept) low (omega arith) (omega arith))));
   long = joined_long short a b ra.long rb.long;
   homed = tt;
 }

@@ -21,8 +21,8 @@ taken_sound f len e fit i here rest fits lt tail =
     let l = operand_long c (code_long e) 8 here in
     let z : here + operand_len c + 1 ≡ here + length (operand_code c 8 here) + 1 = omega arith in
     fit_append f len here (operand_code c 8 here) (i (operand c.home 8) ∷ rest)
-        (operand_sound (height e) f len c (code_long e) g 8 here (omega arith) (omega (arith, fit.1)) (omega arith))
-        (fits (operand c.home 8) (here + length (operand_code c 8 here)) (g.home 8 (omega arith)) (omega (arith, l)), subst (λ p. FitAll f len p rest) z tail)
+    (operand_sound (height e) f len c (code_long e) g 8 here (omega arith) (omega (arith, fit.1)) (omega arith))
+    (fits (operand c.home 8) (here + length (operand_code c 8 here)) (g.home 8 (omega arith)) (omega (arith, l)), subst (λ p. FitAll f len p rest) z tail)
 
 over_sound : (f : Frame) (len p : ℕ) (b : Bool) (n out : ℕ) → out ≡ p + over_len b n + n → out < len → FitAll f len p (over b n out)
 over_sound f len p true n out e lt = tt
@@ -36,8 +36,8 @@ sts_sound f len (x.put_slot k e rest) fit here lt =
     let l = (code_long e).slot k 8 here (λ q. omega (arith, q, fit.0)) in
     let z : here + c.slot_len ≡ here + length (c.value k 8 here) = omega arith in
     fit_append f len here (c.value k 8 here) (sts_code rest (here + c.slot_len))
-        ((code_sound f len e fit.1.0).value k 8 here (omega arith) (omega (arith, fit.1.1)) (omega (arith, fit.0)) (omega (arith, l)))
-        (subst (λ p. FitAll f len p (sts_code rest (here + c.slot_len))) z (sts_sound f len rest fit.2 (here + c.slot_len) (omega arith)))
+    ((code_sound f len e fit.1.0).value k 8 here (omega arith) (omega (arith, fit.1.1)) (omega (arith, fit.0)) (omega (arith, l)))
+    (subst (λ p. FitAll f len p (sts_code rest (here + c.slot_len))) z (sts_sound f len rest fit.2 (here + c.slot_len) (omega arith)))
 sts_sound f len (x.put_pad o w e rest) fit here lt =
     let n = here + operand_len (code_of e) + 1 in
     taken_sound f len e fit.1 (λ r. PutP r (width_bytes w) o) here (sts_code rest n) (λ r p hr q. record { fits = (hr, fit.0, q); kind = refl; plain = refl }) (omega arith) (sts_sound f len rest fit.2 n (omega arith))
@@ -66,14 +66,14 @@ sts_sound f len (x.choose e first other rest) fit here lt =
     let z3 : h3 ≡ h2 + length ov = omega arith in
     let z4 : out ≡ h3 + length co = omega arith in
     fit_append f len here cc (cf ++ (ov ++ (co ++ cr)))
-        ((code_sound f len e fit.0.0).branch false h3 8 here (omega arith) (omega (arith, fit.0.1)) (omega arith) (omega arith))
-        (subst (λ p. FitAll f len p (cf ++ (ov ++ (co ++ cr)))) z1
-            (fit_append f len h1 cf (ov ++ (co ++ cr)) (sts_sound f len first fit.1 h1 (omega arith))
-                (subst (λ p. FitAll f len p (ov ++ (co ++ cr))) z2
-                    (fit_append f len h2 ov (co ++ cr) (over_sound f len h2 b n out refl (omega arith))
-                        (subst (λ p. FitAll f len p (co ++ cr)) z3
-                            (fit_append f len h3 co cr (sts_sound f len other fit.2 h3 (omega arith))
-                                (subst (λ p. FitAll f len p cr) z4 (sts_sound f len rest fit.3 out (omega arith)))))))))
+    ((code_sound f len e fit.0.0).branch false h3 8 here (omega arith) (omega (arith, fit.0.1)) (omega arith) (omega arith))
+    (subst (λ p. FitAll f len p (cf ++ (ov ++ (co ++ cr)))) z1
+    (fit_append f len h1 cf (ov ++ (co ++ cr)) (sts_sound f len first fit.1 h1 (omega arith))
+    (subst (λ p. FitAll f len p (ov ++ (co ++ cr))) z2
+    (fit_append f len h2 ov (co ++ cr) (over_sound f len h2 b n out refl (omega arith))
+    (subst (λ p. FitAll f len p (co ++ cr)) z3
+    (fit_append f len h3 co cr (sts_sound f len other fit.2 h3 (omega arith))
+    (subst (λ p. FitAll f len p cr) z4 (sts_sound f len rest fit.3 out (omega arith)))))))))
 sts_sound f len (x.done rest) fit here lt = (record { fits = tt; kind = refl; plain = refl }, sts_sound f len rest fit (here + 1) (omega arith))
 sts_sound f len (x.go e rest) fit here lt =
     let n = here + operand_len (code_of e) + 1 in

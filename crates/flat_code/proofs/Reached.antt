@@ -111,11 +111,12 @@ body_fits r off len size pad b (x.put_cur o w e rest) k h =
 body_fits r off len size pad b (x.choose e first other rest) k h =
     let i : ℕ × ℕ = (off, len) in
     let h1 = back i (fx_uses e) (fs_uses first ++ (fs_uses other ++ fs_uses rest)) h in
-    let h2 = back i (fs_uses first) (fs_uses other ++ fs_uses rest) h1 in
-    (body_use r off len size pad b e k.0 (front i (fx_uses e) (fs_uses first ++ (fs_uses other ++ fs_uses rest)) h),
-     body_fits r off len size pad b first k.1 (front i (fs_uses first) (fs_uses other ++ fs_uses rest) h1),
-     body_fits r off len size pad b other k.2 (front i (fs_uses other) (fs_uses rest) h2),
-     body_fits r off len size pad b rest k.3 (back i (fs_uses other) (fs_uses rest) h2))
+    let h2 = back i (fs_uses first) (fs_uses other ++ fs_uses rest) h1 in (
+      body_use r off len size pad b e k.0 (front i (fx_uses e) (fs_uses first ++ (fs_uses other ++ fs_uses rest)) h),
+      body_fits r off len size pad b first k.1 (front i (fs_uses first) (fs_uses other ++ fs_uses rest) h1),
+      body_fits r off len size pad b other k.2 (front i (fs_uses other) (fs_uses rest) h2),
+      body_fits r off len size pad b rest k.3 (back i (fs_uses other) (fs_uses rest) h2),
+    )
 body_fits r off len size pad b (x.done rest) k h = body_fits r off len size pad b rest k h
 body_fits r off len size pad b (x.go e rest) k h =
     let i : ℕ × ℕ = (off, len) in

@@ -58,7 +58,7 @@ by_value_right h slots s v n o g long = record {
       let c = v t t here in
       let q : here + length c + 1 ≡ here + (n + 1) = omega (arith, long t t here) in
       jump_from _ _ sense to _ _ t post s regs o (ap (λ l. run here l (at s here regs)) (append_assoc c (test sense t to ∷ []) post)) q
-          (tested o _ sense (here + length c) t to t post s slots regs tied (g t t here (test sense t to ∷ post) regs tied low room (omega arith)));
+      (tested o _ sense (here + length c) t to t post s slots regs tied (g t t here (test sense t to ∷ post) regs tied low room (omega arith)));
   long = by_value_long v n long;
   homed = tt;
 }
@@ -92,7 +92,7 @@ set_by false e v h d t post s slots regs after hb hv tied k lt q =
     let z : h + 2 + 1 ≡ h + 3 = omega arith in
     let q2 = q ∙ pass (SetL d 1 ∷ Jmp (h + 3) ∷ []) (SetL d 0 ∷ post) h (h + 2) s after (omega arith) in
     subst (Word e (h + 3) d d t post s regs) (sym hv)
-        (word_from e e (h + 2 + 1) (h + 3) d d t post s regs (Some 0) refl z (puts (SetL d 0) e (h + 2) d t 0 post s regs after lt (k.long ∙ tied.long) k q2 refl))
+    (word_from e e (h + 2 + 1) (h + 3) d d t post s regs (Some 0) refl z (puts (SetL d 0) e (h + 2) d t 0 post s regs after lt (k.long ∙ tied.long) k q2 refl))
 
 -- a word that is 1 or 0
 abbrev pub IsBit : Option ℕ → Type 0
@@ -111,7 +111,7 @@ by_branch_right h slots s c n o hv g long = record {
       let tail = SetL d 1 ∷ Jmp (here + n + 3) ∷ SetL d 0 ∷ [] in
       let q : here + n + 3 ≡ here + length (code ++ tail) = omega (arith, length-append code tail, long false (here + n + 2) t here) in
       word_from _ _ _ _ d d t post s regs o (ap (λ l. run here l (at s here regs)) (append_assoc code tail post)) q
-          (set_on o _ (here + n) d t post s slots regs hv tied (omega arith) (g false (here + n + 2) t here (tail ++ post) regs tied low room (omega arith)));
+      (set_on o _ (here + n) d t post s slots regs hv tied (omega arith) (g false (here + n + 2) t here (tail ++ post) regs tied low room (omega arith)));
   branch = g;
   long = by_branch_long c n long;
   homed = tt;
@@ -127,13 +127,13 @@ operand_by (Some k) o v post n here t s slots regs st tied g =
     let e = run here post (at s here regs) in
     let z : here ≡ here + 0 = omega arith in
     subst (λ w. Leads e w (Word e (here + 0) k t t post s regs)) (sym st.is)
-        (record { after = regs; comes = ap (λ p. run p post (at s p regs)) z; value = st.reads regs tied; kept = kept_same t t regs })
+    (record { after = regs; comes = ap (λ p. run p post (at s p regs)) z; value = st.reads regs tied; kept = kept_same t t regs })
 
 pub operand_right : (h : ℕ) (slots : List ℕ) (s : State) (c : Code) (o : Option ℕ) → Right h slots s c o → (t here : ℕ) (post : List Instr) (regs : List ℕ) → Tied slots regs → 8 ≤ t → t + h < 15
     → Leads (run here (operand_code c t here ++ post) (at s here regs)) o (Word (run here (operand_code c t here ++ post) (at s here regs)) (here + operand_len c) (operand c.home t) t t post s regs)
 operand_right h slots s c o r t here post regs tied low room =
     operand_by c.home o (c.value t t here) post c.value_len here t s slots regs r.homed tied
-        (word_from _ _ _ _ t t t post s regs o refl (ap (λ n. here + n) (r.long.value t here)) (r.value t t here post regs tied low room (omega arith)))
+    (word_from _ _ _ _ t t t post s regs o refl (ap (λ n. here + n) (r.long.value t here)) (r.value t t here post regs tied low room (omega arith)))
 
 retained : (st o : Option ℕ) (t : ℕ) (slots a b : List ℕ) → Homed slots st o → 8 ≤ t → Kept (t + 1) (t + 1) a b → slice_get b (operand st t) ≡ slice_get a (operand st t)
 retained None o t slots a b st low k = k.low t (omega arith) (λ e. omega arith)
@@ -165,7 +165,7 @@ two_on (Some x) (Some y) f e P h1 h2 ra rb t p1 p2 s slots regs tied low keep ga
     let tied1 = tied_on t t slots regs ga.after low low tied ga.kept in
     let b = gb ga.after tied1 in
     last x y b.after (ga.comes ∙ b.comes) (keep ga.after b.after b.kept ∙ ga.value) b.value (kept_on t t (t + 1) regs ga.after b.after (omega arith) ga.kept b.kept)
-        (tied_on (t + 1) (t + 1) slots ga.after b.after (omega arith) (omega arith) tied1 b.kept)
+    (tied_on (t + 1) (t + 1) slots ga.after b.after (omega arith) (omega arith) tied1 b.kept)
 
 pub two_right : (ha hb : ℕ) (slots : List ℕ) (s : State) (a b : Code) (oa ob : Option ℕ) → Right ha slots s a oa → Right hb slots s b ob
     → (f : ℕ → ℕ → Option ℕ) (t here : ℕ) (rest : List Instr) (regs : List ℕ) (P : ℕ → Type 0) → Tied slots regs → 8 ≤ t → t + ha < 15 → t + 1 + hb < 15
@@ -176,8 +176,8 @@ two_right ha hb slots s a b oa ob ra rb f t here rest regs P tied low rooma room
     let ca = operand_code a t here in
     let cb = operand_code b (t + 1) h1 in
     two_on oa ob f (run here ((ca ++ cb) ++ rest) (at s here regs)) P h1 (h1 + operand_len b) (operand a.home t) (operand b.home (t + 1)) t (cb ++ rest) rest s slots regs tied low
-        (λ x y k. retained a.home oa t slots x y ra.homed low k)
-        (word_from _ _ _ _ (operand a.home t) t t (cb ++ rest) s regs oa (ap (λ l. run here l (at s here regs)) (append_assoc ca cb rest)) refl
-            (operand_right ha slots s a oa ra t here (cb ++ rest) regs tied low rooma))
-        (λ regs1 tied1. operand_right hb slots s b ob rb (t + 1) h1 rest regs1 tied1 (omega arith) roomb)
-        last
+    (λ x y k. retained a.home oa t slots x y ra.homed low k)
+    (word_from _ _ _ _ (operand a.home t) t t (cb ++ rest) s regs oa (ap (λ l. run here l (at s here regs)) (append_assoc ca cb rest)) refl
+    (operand_right ha slots s a oa ra t here (cb ++ rest) regs tied low rooma))
+    (λ regs1 tied1. operand_right hb slots s b ob rb (t + 1) h1 rest regs1 tied1 (omega arith) roomb)
+    last

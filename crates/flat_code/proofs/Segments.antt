@@ -44,7 +44,7 @@ held r (x.put_cur o w e rest) k =
     ((omega arith, omega (arith, k.0)), both (0, r.record_size) (fx_uses e) (fs_uses rest) (held_fx r e k.1.0) (held r rest k.2))
 held r (x.choose e first other rest) k =
     both (0, r.record_size) (fx_uses e) (fs_uses first ++ (fs_uses other ++ fs_uses rest)) (held_fx r e k.0.0)
-        (both (0, r.record_size) (fs_uses first) (fs_uses other ++ fs_uses rest) (held r first k.1) (both (0, r.record_size) (fs_uses other) (fs_uses rest) (held r other k.2) (held r rest k.3)))
+    (both (0, r.record_size) (fs_uses first) (fs_uses other ++ fs_uses rest) (held r first k.1) (both (0, r.record_size) (fs_uses other) (fs_uses rest) (held r other k.2) (held r rest k.3)))
 held r (x.done rest) k = held r rest k
 held r (x.go e rest) k = both (0, r.record_size) (fx_uses e) (fs_uses rest) (held_fx r e k.0.0) (held r rest k.1)
 
@@ -110,8 +110,8 @@ body_fit size pad off len e n b =
     let is = body_length size pad off len e n b in
     let z1 : h2 ≡ 1 + length ce = omega (arith, le) in
     fit_append f total 1 ce (cn ++ Return ∷ []) (sts_sound f total e fe 1 (omega (arith, is)))
-        (subst (λ p. FitAll f total p (cn ++ Return ∷ [])) z1
-            (fit_append f total h2 cn (Return ∷ []) (sts_sound f total n fn h2 (omega (arith, is))) (last f total (h2 + length cn))))
+    (subst (λ p. FitAll f total p (cn ++ Return ∷ [])) z1
+    (fit_append f total h2 cn (Return ∷ []) (sts_sound f total n fn h2 (omega (arith, is))) (last f total (h2 + length cn))))
 
 pub body_verified : (size pad off len : ℕ) (e n : Fs) → BodyIs size pad off len e n → Verified (record { init = false; window = size; pad = pad }) (body_code off len e n)
 body_verified size pad off len e n b =
@@ -121,12 +121,12 @@ body_verified size pad off len e n b =
 pub body_means : (size pad_size off len : ℕ) (e n : Fs) → BodyIs size pad_size off len e n
     → (bytes pad : List ℕ) (cur : ℕ) (writable : Bool) → length bytes ≡ size → length pad ≡ pad_size
     → run_body (body_code off len e n) bytes pad cur writable
-      ≡ end_of (body_frame off len (length bytes) (length pad)) (flat_iteration (record { args = []; cur = cur; writable = writable }) e n bytes pad)
+    ≡ end_of (body_frame off len (length bytes) (length pad)) (flat_iteration (record { args = []; cur = cur; writable = writable }) e n bytes pad)
 body_means size pad_size off len e n b bytes pad cur writable hs hp =
     let within : off + len ≤ length bytes = omega (arith, hs, body_within size pad_size off len e n b) in
     body_right off len cur writable e n bytes pad within
-        (moved e (end_fits size pad_size off len e n b))
-        (moved n (next_fits size pad_size off len e n b))
+    (moved e (end_fits size pad_size off len e n b))
+    (moved n (next_fits size pad_size off len e n b))
   where
     moved : (ss : Fs) → FsFits (body_frame off len size pad_size) ss → FsFits (body_frame off len (length bytes) (length pad)) ss
     moved ss h = subst (λ k. FsFits (body_frame off len (length bytes) k) ss) (sym hp) (subst (λ k. FsFits (body_frame off len k pad_size) ss) (sym hs) h)
@@ -167,8 +167,8 @@ init_verified args pad b h =
 
 pub init_means : (n pad : ℕ) (b : Fs) → InitIs n pad b → (args : List ℕ) → length args ≡ n → All (λ v. v < 2 ^ 64) args
     → run_init (init_code n b) args pad
-      ≡ end_of (init_frame args pad) (flat_iterated (flat_meaning (record { args = args; cur = 0; writable = true }) b (start [] (replicate pad 0))))
+    ≡ end_of (init_frame args pad) (flat_iterated (flat_meaning (record { args = args; cur = 0; writable = true }) b (start [] (replicate pad 0))))
 init_means n pad b h args long all =
     ap (λ k. run_init (init_code k b) args pad) (sym long)
     ∙ init_right b args pad all
-        (init_fits (record { args = n; record_size = 0; pad_size = pad }) (init_frame args pad) (sym long, refl, refl, refl, refl, refl) b h.keeps)
+    (init_fits (record { args = n; record_size = 0; pad_size = pad }) (init_frame args pad) (sym long, refl, refl, refl, refl, refl) b h.keeps)

@@ -60,7 +60,7 @@ by_value_sound h f len v n long g = record {
   value = g;
   branch = λ sense to t here low room past lt.
       fit_append f len here (v t t here) (test sense t to ∷ []) (g t t here low room (omega arith) (omega (arith, long t t here)))
-          (test_fits f len (here + length (v t t here)) sense t to (omega arith) (omega (arith, long t t here)) lt, tt);
+      (test_fits f len (here + length (v t t here)) sense t to (omega arith) (omega (arith, long t t here)) lt, tt);
   home = λ t lt. lt;
 }
 
@@ -79,7 +79,7 @@ by_branch_sound h f len c n long g = record {
       let la = length-append code tail in
       let lc = long false (here + n + 2) t here in
       fit_append f len here code tail (g false (here + n + 2) t here low room (omega arith) (omega (arith, la, lc, q)))
-          (set_fits f len _ d 1 (omega arith) (omega (arith, la, lc, q)), (jmp_fits f len _ _ (omega (arith, la, lc, q)) (omega (arith, la, lc, q)), (set_fits f len _ d 0 (omega arith) (omega (arith, la, lc, q)), tt)));
+      (set_fits f len _ d 1 (omega arith) (omega (arith, la, lc, q)), (jmp_fits f len _ _ (omega (arith, la, lc, q)) (omega (arith, la, lc, q)), (set_fits f len _ d 0 (omega arith) (omega (arith, la, lc, q)), tt)));
   branch = g;
   home = λ t lt. lt;
 }
@@ -98,20 +98,20 @@ two_sound ha hb f len a b la lb ga gb t here low rooma roomb lt =
     let l = operand_long a la t here in
     let z : here + operand_len a ≡ here + length (operand_code a t here) = omega arith in
     fit_append f len here (operand_code a t here) (operand_code b (t + 1) (here + operand_len a))
-        (operand_sound ha f len a la ga t here low rooma (omega arith))
-        (subst (λ p. FitAll f len p (operand_code b (t + 1) (here + operand_len a))) z (operand_sound hb f len b lb gb (t + 1) (here + operand_len a) (omega arith) roomb lt))
+    (operand_sound ha f len a la ga t here low rooma (omega arith))
+    (subst (λ p. FitAll f len p (operand_code b (t + 1) (here + operand_len a))) z (operand_sound hb f len b lb gb (t + 1) (here + operand_len a) (omega arith) roomb lt))
 
 -- ---- operators
 
 flip_sound : (h : ℕ) (f : Frame) (len : ℕ) (a : Code) → Long a → Sound h f len a → Sound h f len (flip_code a)
 flip_sound h f len a l g =
     by_value_sound h f len _ (operand_len a + 1) (flip_length a l)
-        (λ d t here low room le q.
-            let c = operand_code a t here in
-            let k = flip_length a l d t here in
-            let m = operand_long a l t here in
-            fit_append f len here c (Not d (operand a.home t) ∷ []) (operand_sound h f len a l g t here low room (omega (arith, k, q)))
-                (record { fits = record { a_in = omega arith; b_in = g.home t (omega arith); next = omega (arith, k, m, q) }; kind = refl; plain = refl }, tt))
+    (λ d t here low room le q.
+    let c = operand_code a t here in
+    let k = flip_length a l d t here in
+    let m = operand_long a l t here in
+    fit_append f len here c (Not d (operand a.home t) ∷ []) (operand_sound h f len a l g t here low room (omega (arith, k, q)))
+    (record { fits = record { a_in = omega arith; b_in = g.home t (omega arith); next = omega (arith, k, m, q) }; kind = refl; plain = refl }, tt))
 
 not_sound : (h : ℕ) (f : Frame) (len : ℕ) (a : Code) → Long a → Sound h f len a → Sound h f len (not_code a)
 not_sound h f len a l g =
@@ -124,14 +124,14 @@ computes_fits _ f len p d b c hd hb hc q = record { fits = record { a_in = hd; b
 compute_sound : (o : BinaryOp) (ha hb : ℕ) (f : Frame) (len : ℕ) (a b : Code) → Long a → Long b → Sound ha f len a → Sound hb f len b → Sound (max ha (hb + 1)) f len (compute (computes o) a b)
 compute_sound o ha hb f len a b la lb ga gb =
     by_value_sound (max ha (hb + 1)) f len _ (operand_len a + operand_len b + 1)
-        (λ d t here. two_length a b la lb t here (computes o d (operand a.home t) (operand b.home (t + 1))))
-        (λ d t here low room le q.
-            let two = two_code a b t here in
-            let i = computes o d (operand a.home t) (operand b.home (t + 1)) in
-            let l = two_length a b la lb t here i in
-            let m = two_long a b la lb t here in
-            fit_append f len here two (i ∷ []) (two_sound ha hb f len a b la lb ga gb t here low (omega arith) (omega arith) (omega (arith, l, q)))
-                (computes_fits o f len _ d _ _ (omega arith) (ga.home t (omega arith)) (gb.home (t + 1) (omega arith)) (omega (arith, l, m, q)), tt))
+    (λ d t here. two_length a b la lb t here (computes o d (operand a.home t) (operand b.home (t + 1))))
+    (λ d t here low room le q.
+    let two = two_code a b t here in
+    let i = computes o d (operand a.home t) (operand b.home (t + 1)) in
+    let l = two_length a b la lb t here i in
+    let m = two_long a b la lb t here in
+    fit_append f len here two (i ∷ []) (two_sound ha hb f len a b la lb ga gb t here low (omega arith) (omega arith) (omega (arith, l, q)))
+    (computes_fits o f len _ d _ _ (omega arith) (ga.home t (omega arith)) (gb.home (t + 1) (omega arith)) (omega (arith, l, m, q)), tt))
 
 jumps_fits : (o : BinaryOp) (sense : Bool) (f : Frame) (len p b c to : ℕ) → b < 16 → c < 16 → p < to → to < len → OneFits f len p (jumps o sense b c to)
 jumps_fits op.Eq true f len p b c to hb hc up low = record { fits = (record { a_in = hb; b_in = hc; next = omega arith }, record { above = up; below = low }); kind = refl; plain = refl }
@@ -151,12 +151,12 @@ jumps_fits _ sense f len p b c to hb hc up low = jmp_fits f len p to up low
 compare_sound : (o : BinaryOp) (ha hb : ℕ) (f : Frame) (len : ℕ) (a b : Code) → Long a → Long b → Sound ha f len a → Sound hb f len b → Sound (max ha (hb + 1)) f len (compare (jumps o) a b)
 compare_sound o ha hb f len a b la lb ga gb =
     by_branch_sound (max ha (hb + 1)) f len _ (operand_len a + operand_len b + 1)
-        (λ sense to t here. two_length a b la lb t here (jumps o sense (operand a.home t) (operand b.home (t + 1)) to))
-        (λ sense to t here low room past lt.
-            let two = two_code a b t here in
-            let m = two_long a b la lb t here in
-            fit_append f len here two (jumps o sense (operand a.home t) (operand b.home (t + 1)) to ∷ []) (two_sound ha hb f len a b la lb ga gb t here low (omega arith) (omega arith) (omega arith))
-                (jumps_fits o sense f len (here + length two) _ _ to (ga.home t (omega arith)) (gb.home (t + 1) (omega arith)) (omega (arith, m, past)) lt, tt))
+    (λ sense to t here. two_length a b la lb t here (jumps o sense (operand a.home t) (operand b.home (t + 1)) to))
+    (λ sense to t here low room past lt.
+    let two = two_code a b t here in
+    let m = two_long a b la lb t here in
+    fit_append f len here two (jumps o sense (operand a.home t) (operand b.home (t + 1)) to ∷ []) (two_sound ha hb f len a b la lb ga gb t here low (omega arith) (omega arith) (omega arith))
+    (jumps_fits o sense f len (here + length two) _ _ to (ga.home t (omega arith)) (gb.home (t + 1) (omega arith)) (omega (arith, m, past)) lt, tt))
 
 move_fits : (f : Frame) (len p d t : ℕ) (b : Bool) → d < 16 → t < 16 → p + length (if b then [] else Mov d t ∷ []) < len → FitAll f len p (if b then [] else Mov d t ∷ [])
 move_fits f len p d t true hd ht lt = tt
@@ -181,11 +181,12 @@ joined_sound short ha hb f len a b long_a long_b ga gb = record {
       let l1 = length-append ca (test short t past ∷ (cb ++ mv)) in
       let l2 = length-append cb mv in
       let z : h1 + 1 ≡ here + length ca + 1 = omega arith in
-      fit_append f len here ca (test short t past ∷ (cb ++ mv)) (ga.value t t here low (omega arith) (omega arith) (omega (arith, l1, q)))
-          (test_fits f len (here + length ca) short t past (omega arith) (omega (arith, la)) (omega (arith, l1, l2, la, lb, q)),
-           subst (λ p. FitAll f len p (cb ++ mv)) z
-               (fit_append f len (h1 + 1) cb mv (gb.value t t (h1 + 1) low (omega arith) (omega arith) (omega (arith, l1, l2, la, q)))
-                   (move_fits f len (h1 + 1 + length cb) d t (nat_eq d t) (omega arith) (omega arith) (omega (arith, l1, l2, la, q)))));
+      fit_append f len here ca (test short t past ∷ (cb ++ mv)) (ga.value t t here low (omega arith) (omega arith) (omega (arith, l1, q))) (
+        test_fits f len (here + length ca) short t past (omega arith) (omega (arith, la)) (omega (arith, l1, l2, la, lb, q)),
+        subst (λ p. FitAll f len p (cb ++ mv)) z
+            (fit_append f len (h1 + 1) cb mv (gb.value t t (h1 + 1) low (omega arith) (omega arith) (omega (arith, l1, l2, la, q)))
+            (move_fits f len (h1 + 1 + length cb) d t (nat_eq d t) (omega arith) (omega arith) (omega (arith, l1, l2, la, q)))),
+      );
   branch = λ sense to t here low room past lt.
       let h1 = here + a.branch_len in
       let out = h1 + b.branch_len in
@@ -193,8 +194,8 @@ joined_sound short ha hb f len a b long_a long_b ga gb = record {
       let la = long_a.branch short target t here in
       let z : h1 ≡ here + length (a.branch short target t here) = omega arith in
       fit_append f len here (a.branch short target t here) (b.branch sense to t h1)
-          (ga.branch short target t here low (omega arith) (target_above short sense h1 to out (omega arith) (omega arith)) (target_below short sense len to out lt (omega arith)))
-          (subst (λ p. FitAll f len p (b.branch sense to t h1)) z (gb.branch sense to t h1 low (omega arith) (omega arith) lt));
+      (ga.branch short target t here low (omega arith) (target_above short sense h1 to out (omega arith) (omega arith)) (target_below short sense len to out lt (omega arith)))
+      (subst (λ p. FitAll f len p (b.branch sense to t h1)) z (gb.branch sense to t h1 low (omega arith) (omega arith) lt));
   home = λ t lt. lt;
 }
 
@@ -216,7 +217,7 @@ num_sound f len (suc n) = by_half (suc n / 2 ^ 32)
     by_half zero = one_sound f len (λ d. SetL d (suc n)) (λ d p hd q. set_fits f len p d (suc n) hd q)
     by_half (suc h) =
         by_value_sound 0 f len _ 2 (λ d t here. refl)
-            (λ d t here low room le q. (set_fits f len here d (suc n % 2 ^ 32) (omega arith) (omega arith), (record { fits = (omega arith, omega arith); kind = refl; plain = refl }, tt)))
+        (λ d t here low room le q. (set_fits f len here d (suc n % 2 ^ 32) (omega arith) (omega arith), (record { fits = (omega arith, omega arith); kind = refl; plain = refl }, tt)))
 
 pub code_sound : (f : Frame) (len : ℕ) (e : Fx) → FxFits f e → Sound (height e) f len (code_of e)
 code_sound f len (x.num n) fit = num_sound f len n

@@ -157,7 +157,7 @@ StsRight f g ss =
 -- an operand, and what takes its word
 taken_on : (f : Frame) (g : Fixed) (e : Fx) (i : ℕ → Instr) (F : ℕ → Leaving) (here there : ℕ) (rest post : List Instr) (a : Slots) (s : State) (regs : List ℕ) → UseFits f e → Agrees f g a s → Tied a.slots regs
     → ((v : ℕ) (after : List ℕ) → slice_get after (operand (code_of e).home 8) ≡ Some v → Tied a.slots after →
-        Carries f g (run (here + operand_len (code_of e)) (i (operand (code_of e).home 8) ∷ (rest ++ post)) (at s (here + operand_len (code_of e)) after)) there post (F v))
+    Carries f g (run (here + operand_len (code_of e)) (i (operand (code_of e).home 8) ∷ (rest ++ post)) (at s (here + operand_len (code_of e)) after)) there post (F v))
     → Carries f g (run here (taken (code_of e) i here rest ++ post) (at s here regs)) there post (flat_given (word (flat_value g a e)) F)
 taken_on f g e i F here there rest post a s regs fit h tied next =
     let c = code_of e in
@@ -166,9 +166,9 @@ taken_on f g e i F here there rest post a s regs fit h tied next =
     let o = word (flat_value g a e) in
     let start = run here (taken c i here rest ++ post) (at s here regs) in
     given_on f g o F start there post (Word start h1 r 8 8 (i r ∷ (rest ++ post)) s regs)
-        (word_from _ start h1 h1 r 8 8 (i r ∷ (rest ++ post)) s regs o (ap (λ l. run here l (at s here regs)) (append_assoc (operand_code c 8 here) (i r ∷ rest) post)) refl
-            (operand_right (height e) a.slots s c o (code_right f g a s h e fit.0) 8 here (i r ∷ (rest ++ post)) regs tied (omega arith) (omega (arith, fit.1))))
-        (λ v w. carries_from f g _ start there there post (F v) w.comes refl (next v w.after w.value (tied_on 8 8 a.slots regs w.after (omega arith) (omega arith) tied w.kept)))
+    (word_from _ start h1 h1 r 8 8 (i r ∷ (rest ++ post)) s regs o (ap (λ l. run here l (at s here regs)) (append_assoc (operand_code c 8 here) (i r ∷ rest) post)) refl
+    (operand_right (height e) a.slots s c o (code_right f g a s h e fit.0) 8 here (i r ∷ (rest ++ post)) regs tied (omega arith) (omega (arith, fit.1))))
+    (λ v w. carries_from f g _ start there there post (F v) w.comes refl (next v w.after w.value (tied_on 8 8 a.slots regs w.after (omega arith) (omega arith) tied w.kept)))
 
 -- ---- how many they are
 
@@ -248,7 +248,7 @@ ended g (x.put_pad o w e rest) a h = ended_given (word (flat_value g a e)) _ (λ
 ended g (x.put_cur o w e rest) a h = ended_given (word (flat_value g a e)) _ (λ v. ended_writable g.writable _ (ended g rest (to_cur o w v a) h))
 ended g (x.choose e first other rest) a h =
     ended_given (word (flat_value g a e)) _
-        (λ v. ended_choice (leaves first) (leaves other) (leaves rest) v _ _ _ h (ended g first a) (ended g other a) (λ q b. ended g rest b q))
+    (λ v. ended_choice (leaves first) (leaves other) (leaves rest) v _ _ _ h (ended g first a) (ended g other a) (λ q b. ended g rest b q))
 ended g (x.done rest) a h = tt
 ended g (x.go e rest) a h = ended_given (word (flat_value g a e)) _ (λ v. tt)
 
@@ -290,13 +290,13 @@ picked f g b zero ma mb e h1 h2 n out cf co q a s regs ended e2 long eo tied j f
     let t = tied_on 8 8 a.slots regs j.after (omega arith) (omega arith) tied j.kept in
     let z : h1 + length (cf ++ ov) ≡ h3 = omega (arith, length-append cf ov, over_long b n out) in
     carries_from f g _ e out out q mb
-        (j.comes ∙ ap (λ l. run h1 l (at s h3 j.after)) (sym (append_assoc cf ov (co ++ q))) ∙ pass (cf ++ ov) (co ++ q) h1 h3 s j.after (omega arith) ∙ ap (λ p. run p (co ++ q) (at s h3 j.after)) z)
-        refl (other j.after t)
+    (j.comes ∙ ap (λ l. run h1 l (at s h3 j.after)) (sym (append_assoc cf ov (co ++ q))) ∙ pass (cf ++ ov) (co ++ q) h1 h3 s j.after (omega arith) ∙ ap (λ p. run p (co ++ q) (at s h3 j.after)) z)
+    refl (other j.after t)
 picked f g b (suc v) ma mb e h1 h2 n out cf co q a s regs ended e2 long eo tied j first other =
     let h3 = h2 + over_len b n in
     let t = tied_on 8 8 a.slots regs j.after (omega arith) (omega arith) tied j.kept in
     past_other f g b n h2 out co q e ma ended long eo
-        (carries_from f g _ e h2 h2 (over b n out ++ (co ++ q)) ma (j.comes ∙ ap (λ to. run h1 (cf ++ (over b n out ++ (co ++ q))) (at s to j.after)) (ap (λ c. led false c h3 h1) (suc_true v))) refl (first j.after t))
+    (carries_from f g _ e h2 h2 (over b n out ++ (co ++ q)) ma (j.comes ∙ ap (λ to. run h1 (cf ++ (over b n out ++ (co ++ q))) (at s to j.after)) (ap (λ c. led false c h3 h1) (suc_true v))) refl (first j.after t))
 
 -- ---- all of them
 
@@ -321,10 +321,10 @@ sts_right f g (x.put_slot k e rest) here post a s regs fit h tied =
     let there = here + (c.slot_len + sts_len rest) in
     let z : h1 + sts_len rest ≡ there = omega arith in
     given_on f g o (λ v. flat_meaning g rest (to_slot k v a)) start there post (Word start h1 k k 8 (cr ++ post) s regs)
-        (word_from _ start _ h1 k k 8 (cr ++ post) s regs o (ap (λ l. run here l (at s here regs)) (append_assoc cv cr post)) (ap (λ n. here + n) (r.long.slot k 8 here (λ q. omega (arith, q, fit.0))))
-            (r.value k 8 here (cr ++ post) regs tied (omega arith) (omega (arith, fit.1.1)) (omega (arith, fit.0))))
-        (λ v w. carries_from f g _ start _ there post (flat_meaning g rest (to_slot k v a)) w.comes z
-            (sts_right f g rest h1 post (to_slot k v a) s w.after fit.2 (agrees_slot f g a s k v h) (tied_set k v a.slots regs w.after fit.0 tied w.kept w.value)))
+    (word_from _ start _ h1 k k 8 (cr ++ post) s regs o (ap (λ l. run here l (at s here regs)) (append_assoc cv cr post)) (ap (λ n. here + n) (r.long.slot k 8 here (λ q. omega (arith, q, fit.0))))
+    (r.value k 8 here (cr ++ post) regs tied (omega arith) (omega (arith, fit.1.1)) (omega (arith, fit.0))))
+    (λ v w. carries_from f g _ start _ there post (flat_meaning g rest (to_slot k v a)) w.comes z
+    (sts_right f g rest h1 post (to_slot k v a) s w.after fit.2 (agrees_slot f g a s k v h) (tied_set k v a.slots regs w.after fit.0 tied w.kept w.value)))
 sts_right f g (x.put_pad o w e rest) here post a s regs fit h tied =
     let c = code_of e in
     let h1 = here + operand_len c in
@@ -333,9 +333,9 @@ sts_right f g (x.put_pad o w e rest) here post a s regs fit h tied =
     let there = here + (operand_len c + 1 + sts_len rest) in
     let z : h1 + 1 + sts_len rest ≡ there = omega arith in
     taken_on f g e (λ r. PutP r (width_bytes w) o) (λ v. flat_meaning g rest (to_pad o w v a)) here there cr post a s regs fit.1 h tied
-        (λ v after hx t. carries_from f g _ _ _ there post (flat_meaning g rest (to_pad o w v a))
-            (here_is h1 (PutP r (width_bytes w) o) (cr ++ post) s after ∙ ap (λ x. follow x (run (h1 + 1) (cr ++ post))) (pad_step r o w v f.pad h1 s after fit.0 h.pad_size hx)) z
-            (sts_right f g rest (h1 + 1) post (to_pad o w v a) (padded o w v s) after fit.2 (agrees_pad f g a s o w v fit.0 h) t))
+    (λ v after hx t. carries_from f g _ _ _ there post (flat_meaning g rest (to_pad o w v a))
+    (here_is h1 (PutP r (width_bytes w) o) (cr ++ post) s after ∙ ap (λ x. follow x (run (h1 + 1) (cr ++ post))) (pad_step r o w v f.pad h1 s after fit.0 h.pad_size hx)) z
+    (sts_right f g rest (h1 + 1) post (to_pad o w v a) (padded o w v s) after fit.2 (agrees_pad f g a s o w v fit.0 h) t))
 sts_right f g (x.put_cur o w e rest) here post a s regs fit h tied =
     let c = code_of e in
     let h1 = here + operand_len c in
@@ -344,10 +344,10 @@ sts_right f g (x.put_cur o w e rest) here post a s regs fit h tied =
     let there = here + (operand_len c + 1 + sts_len rest) in
     let z : h1 + 1 + sts_len rest ≡ there = omega arith in
     taken_on f g e (λ r. PutW r (width_bytes w) o) (λ v. flat_writable g.writable (flat_meaning g rest (to_cur o w v a))) here there cr post a s regs fit.2 h tied
-        (λ v after hx t. may_write f g s.writable g.writable _ (h1 + 1) there (cr ++ post) post (at (recorded o w v s) (h1 + 1) after) (flat_meaning g rest (to_cur o w v a)) (h.writable fit.0)
-            (here_is h1 (PutW r (width_bytes w) o) (cr ++ post) s after ∙ ap (λ x. follow x (run (h1 + 1) (cr ++ post))) (cur_step r o w v h1 f s after fit.1 h.window h.size hx))
-            (carries_from f g _ _ _ there post (flat_meaning g rest (to_cur o w v a)) refl z
-                (sts_right f g rest (h1 + 1) post (to_cur o w v a) (recorded o w v s) after fit.3 (agrees_cur f g a s o w v fit.0 fit.1 h) t)))
+    (λ v after hx t. may_write f g s.writable g.writable _ (h1 + 1) there (cr ++ post) post (at (recorded o w v s) (h1 + 1) after) (flat_meaning g rest (to_cur o w v a)) (h.writable fit.0)
+    (here_is h1 (PutW r (width_bytes w) o) (cr ++ post) s after ∙ ap (λ x. follow x (run (h1 + 1) (cr ++ post))) (cur_step r o w v h1 f s after fit.1 h.window h.size hx))
+    (carries_from f g _ _ _ there post (flat_meaning g rest (to_cur o w v a)) refl z
+    (sts_right f g rest (h1 + 1) post (to_cur o w v a) (recorded o w v s) after fit.3 (agrees_cur f g a s o w v fit.0 fit.1 h) t)))
 sts_right f g (x.choose e first other rest) here post a s regs fit h tied =
     let c = code_of e in
     let r = code_right f g a s h e fit.0.0 in
@@ -373,13 +373,13 @@ sts_right f g (x.choose e first other rest) here post a s regs fit h tied =
     let z : out + sts_len rest ≡ there = omega arith in
     let longf : h2 ≡ h1 + length cf = omega (arith, sts_long first (fits_low f first fit.1) h1) in
     given_on f g o (λ v. flat_then (flat_pick v ma mb) (flat_meaning g rest)) start there post (Jump start false h3 h1 8 p1 s regs)
-        (jump_from _ start false h3 h1 h1 8 p1 s regs o (ap (λ l. run here l (at s here regs)) flat) refl
-            (r.branch false h3 8 here p1 regs tied (omega arith) (omega (arith, fit.0.1)) (omega arith)))
-        (λ v j. then_on f g (flat_pick v ma mb) (flat_meaning g rest) start out there q post
-            (picked f g b v ma mb start h1 h2 n out cf co q a s regs (ended g first a) longf (sts_long other (fits_low f other fit.2) h3) refl tied j
-                (λ after t. sts_right f g first h1 (ov ++ (co ++ q)) a s after fit.1 h t)
-                (λ after t. sts_right f g other h3 q a s after fit.2 h t))
-            (λ a2 s2 regs2 h2 t2. carries_from f g _ _ _ there post (flat_meaning g rest a2) refl z (sts_right f g rest out post a2 s2 regs2 fit.3 h2 t2)))
+    (jump_from _ start false h3 h1 h1 8 p1 s regs o (ap (λ l. run here l (at s here regs)) flat) refl
+    (r.branch false h3 8 here p1 regs tied (omega arith) (omega (arith, fit.0.1)) (omega arith)))
+    (λ v j. then_on f g (flat_pick v ma mb) (flat_meaning g rest) start out there q post
+    (picked f g b v ma mb start h1 h2 n out cf co q a s regs (ended g first a) longf (sts_long other (fits_low f other fit.2) h3) refl tied j
+    (λ after t. sts_right f g first h1 (ov ++ (co ++ q)) a s after fit.1 h t)
+    (λ after t. sts_right f g other h3 q a s after fit.2 h t))
+    (λ a2 s2 regs2 h2 t2. carries_from f g _ _ _ there post (flat_meaning g rest a2) refl z (sts_right f g rest out post a2 s2 regs2 fit.3 h2 t2)))
 sts_right f g (x.done rest) here post a s regs fit h tied =
     here_is here Return (sts_code rest (here + 1) ++ post) s regs ∙ ap (λ b. m.Done b s.pad) h.bytes ∙ ap (λ p. m.Done (left_bytes f a.record_bytes) p) h.pad
 sts_right f g (x.go e rest) here post a s regs fit h tied =
@@ -388,6 +388,6 @@ sts_right f g (x.go e rest) here post a s regs fit h tied =
     let r = operand c.home 8 in
     let cr = sts_code rest (h1 + 1) in
     taken_on f g e NextIter (λ v. Ends (i.Goes v a.record_bytes a.pad)) here _ cr post a s regs fit.0 h tied
-        (λ v after hx t.
-            let q : step (NextIter r) (at s h1 after) ≡ m.Ends (m.Goes v s.bytes s.pad) = rw hx in
-            here_is h1 (NextIter r) (cr ++ post) s after ∙ ap (λ x. follow x (run (h1 + 1) (cr ++ post))) q ∙ ap (λ b. m.Goes v b s.pad) h.bytes ∙ ap (λ p. m.Goes v (left_bytes f a.record_bytes) p) h.pad)
+    (λ v after hx t.
+    let q : step (NextIter r) (at s h1 after) ≡ m.Ends (m.Goes v s.bytes s.pad) = rw hx in
+    here_is h1 (NextIter r) (cr ++ post) s after ∙ ap (λ x. follow x (run (h1 + 1) (cr ++ post))) q ∙ ap (λ b. m.Goes v b s.pad) h.bytes ∙ ap (λ p. m.Goes v (left_bytes f a.record_bytes) p) h.pad)

@@ -37,15 +37,15 @@ number_right : (n h : ℕ) (slots : List ℕ) (s : State) → n / 2 ^ 32 ≡ h �
 number_right n zero slots s e = one_right (λ d. SetL d n) n slots s (λ d h regs. refl)
 number_right n (suc h) slots s e =
     by_value_right 0 slots s _ 2 (Some n)
-        (λ d t here post regs tied low room le.
-            let lt : d < 15 = omega arith in
-            let g = puts (SetL d (n % 2 ^ 32)) _ here d t (n % 2 ^ 32) (SetH d (suc h) ∷ post) s regs regs lt tied.long (kept_same t t regs) refl refl in
-            let hx = g.value in
-            let q : step (SetH d (suc h)) (at s (here + 1) g.after) ≡ put d (n % 2 ^ 32 % 2 ^ 32 + suc h * 2 ^ 32) (at s (here + 1) g.after) = rw hx in
-            let z : here + 1 + 1 ≡ here + 2 = omega arith in
-            word_from _ _ _ _ d d t post s regs (Some n) refl z
-                (puts_again (SetH d (suc h)) _ (here + 1) d t n post s regs g.after lt (g.kept.long ∙ tied.long) g.kept g.comes (q ∙ ap (λ v. put d v (at s (here + 1) g.after)) (halves n (suc h) e))))
-        (λ d t here. refl)
+    (λ d t here post regs tied low room le.
+    let lt : d < 15 = omega arith in
+    let g = puts (SetL d (n % 2 ^ 32)) _ here d t (n % 2 ^ 32) (SetH d (suc h) ∷ post) s regs regs lt tied.long (kept_same t t regs) refl refl in
+    let hx = g.value in
+    let q : step (SetH d (suc h)) (at s (here + 1) g.after) ≡ put d (n % 2 ^ 32 % 2 ^ 32 + suc h * 2 ^ 32) (at s (here + 1) g.after) = rw hx in
+    let z : here + 1 + 1 ≡ here + 2 = omega arith in
+    word_from _ _ _ _ d d t post s regs (Some n) refl z
+    (puts_again (SetH d (suc h)) _ (here + 1) d t n post s regs g.after lt (g.kept.long ∙ tied.long) g.kept g.comes (q ∙ ap (λ v. put d v (at s (here + 1) g.after)) (halves n (suc h) e))))
+    (λ d t here. refl)
 
 num_right : (n : ℕ) (slots : List ℕ) (s : State) → Right 0 slots s (num_code n) (Some n)
 num_right zero slots s = at_home_right 15 0 slots s (record { v = 0; is = refl; low = inr refl; reads = λ regs tied. tied.zeros })
@@ -64,17 +64,17 @@ read_is bytes o w h = number_at-there bytes o (width_bytes w) h ∙ ap Some (num
 seen_right : (o w v : ℕ) (slots : List ℕ) (s : State) (f : Frame) → s.window ≡ f.window → HasSeen f.size f.window o w → number_at s.bytes o w ≡ Some v → Right 0 slots s (one_code (λ d. GetW d w o)) (Some v)
 seen_right o w v slots s f hw h e =
     one_right (λ d. GetW d w o) v slots s
-        (λ d p regs.
-            let inside : is_inside s.window o w ≡ true = ap (λ x. is_inside x o w) hw ∙ h.inside in
-            ap (λ b. given b (reading (number_at s.bytes o w) (λ v. put d v (at s p regs)))) (and_from (is_width w) (is_inside s.window o w) h.bytes.width inside)
-            ∙ ap (λ n. reading n (λ v. put d v (at s p regs))) e)
+    (λ d p regs.
+    let inside : is_inside s.window o w ≡ true = ap (λ x. is_inside x o w) hw ∙ h.inside in
+    ap (λ b. given b (reading (number_at s.bytes o w) (λ v. put d v (at s p regs)))) (and_from (is_width w) (is_inside s.window o w) h.bytes.width inside)
+    ∙ ap (λ n. reading n (λ v. put d v (at s p regs))) e)
 
 pad_right : (o w v n : ℕ) (slots : List ℕ) (s : State) → HasBytes n o w → number_at s.pad o w ≡ Some v → Right 0 slots s (one_code (λ d. GetP d w o)) (Some v)
 pad_right o w v n slots s h e =
     one_right (λ d. GetP d w o) v slots s
-        (λ d p regs.
-            ap (λ b. given b (reading (number_at s.pad o w) (λ v. put d v (at s p regs)))) h.width
-            ∙ ap (λ n. reading n (λ v. put d v (at s p regs))) e)
+    (λ d p regs.
+    ap (λ b. given b (reading (number_at s.pad o w) (λ v. put d v (at s p regs)))) h.width
+    ∙ ap (λ n. reading n (λ v. put d v (at s p regs))) e)
 
 -- ---- words
 

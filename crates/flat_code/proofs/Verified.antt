@@ -143,8 +143,8 @@ verified f is within next short h =
     by_place zero i e =
         let same : Load f.window.off f.window.len ≡ i = cc in
         subst (λ j. broken_in (record { init = f.init; window = f.size; pad = f.pad }) f.window (length (Load f.window.off f.window.len ∷ is)) 0 j ≡ None) same
-            (loads (record { init = f.init; window = f.size; pad = f.pad }) f.window.off f.window.len (length (Load f.window.off f.window.len ∷ is)) within next)
+        (loads (record { init = f.init; window = f.size; pad = f.pad }) f.window.off f.window.len (length (Load f.window.off f.window.len ∷ is)) within next)
     by_place (suc k) i e =
         let z : 1 + k ≡ suc k = omega arith in
         unbroken f (length (Load f.window.off f.window.len ∷ is)) (suc k) i (omega arith)
-            (subst (λ q. OneFits f (length (Load f.window.off f.window.len ∷ is)) q i) z (fit_at f (length (Load f.window.off f.window.len ∷ is)) 1 k is i h e))
+        (subst (λ q. OneFits f (length (Load f.window.off f.window.len ∷ is)) q i) z (fit_at f (length (Load f.window.off f.window.len ∷ is)) 1 k is i h e))

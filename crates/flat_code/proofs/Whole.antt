@@ -53,10 +53,10 @@ body_right off len cur writable e n bytes pad room fe fn =
     let there = h2 + sts_len n in
     let code = body_code off len e n in
     let began : run_body code bytes pad cur writable ≡ run 1 (ce ++ (cn ++ Return ∷ [])) (at s1 1 regs) =
-        here_is 0 (Load off len) (ce ++ (cn ++ Return ∷ [])) s0 regs
-        ∙ ap (λ b. follow (given b (On (at s1 1 regs))) (run 1 (ce ++ (cn ++ Return ∷ [])))) (le-leb (off + len) (length bytes) room) in
+    here_is 0 (Load off len) (ce ++ (cn ++ Return ∷ [])) s0 regs
+    ∙ ap (λ b. follow (given b (On (at s1 1 regs))) (run 1 (ce ++ (cn ++ Return ∷ [])))) (le-leb (off + len) (length bytes) room) in
     let agrees : Agrees f g a s1 = record { window = refl; size = refl; pad_size = refl; pad = refl; cur = λ q. refl; bytes = refl; args = λ q k lt. absurd (omega arith); writable = λ q. refl } in
     ended f g _ there (flat_then (flat_meaning g e a) (flat_meaning g n))
-        (then_on f g (flat_meaning g e a) (flat_meaning g n) _ h2 there (cn ++ Return ∷ []) (Return ∷ [])
-            (carries_from f g _ _ h2 h2 (cn ++ Return ∷ []) (flat_meaning g e a) began refl (sts_right f g e 1 (cn ++ Return ∷ []) a s1 regs fe agrees tied_zeros))
-            (λ a2 s2 regs2 h t. sts_right f g n h2 (Return ∷ []) a2 s2 regs2 fn h t))
+    (then_on f g (flat_meaning g e a) (flat_meaning g n) _ h2 there (cn ++ Return ∷ []) (Return ∷ [])
+    (carries_from f g _ _ h2 h2 (cn ++ Return ∷ []) (flat_meaning g e a) began refl (sts_right f g e 1 (cn ++ Return ∷ []) a s1 regs fe agrees tied_zeros))
+    (λ a2 s2 regs2 h t. sts_right f g n h2 (Return ∷ []) a2 s2 regs2 fn h t))

@@ -23,7 +23,7 @@ BodyLaw =
     → FsFits (body_frame off len (length bytes) (length pad)) end_part
     → FsFits (body_frame off len (length bytes) (length pad)) next_part
     → run_body (body_code off len end_part next_part) bytes pad cur writable
-      ≡ end_of (body_frame off len (length bytes) (length pad)) (flat_iteration (record { args = []; cur = cur; writable = writable }) end_part next_part bytes pad)
+    ≡ end_of (body_frame off len (length bytes) (length pad)) (flat_iteration (record { args = []; cur = cur; writable = writable }) end_part next_part bytes pad)
 
 -- ---- init: one LOAD of all the arguments, init, and a RETURN
 
@@ -40,4 +40,4 @@ InitLaw =
     → All (λ v. v < 2 ^ 64) args
     → FsFits (init_frame args pad) init_part
     → run_init (init_code (length args) init_part) args pad
-      ≡ end_of (init_frame args pad) (flat_iterated (flat_meaning (record { args = args; cur = 0; writable = true }) init_part (start [] (replicate pad 0))))
+    ≡ end_of (init_frame args pad) (flat_iterated (flat_meaning (record { args = args; cur = 0; writable = true }) init_part (start [] (replicate pad 0))))

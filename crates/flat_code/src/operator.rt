@@ -24,12 +24,8 @@ pub fn way_for(op: BinaryOp) -> Way
     match op {
         BinaryOp::Or => Way::Joined { short: true },
         BinaryOp::And => Way::Joined { short: false },
-        BinaryOp::Eq
-        | BinaryOp::Ne
-        | BinaryOp::Lt
-        | BinaryOp::Le
-        | BinaryOp::Gt
-        | BinaryOp::Ge => Way::Compared,
+        BinaryOp::Eq | BinaryOp::Ne | BinaryOp::Lt | BinaryOp::Le | BinaryOp::Gt | BinaryOp::Ge =>
+            Way::Compared,
         BinaryOp::BitAnd
         | BinaryOp::BitOr
         | BinaryOp::BitXor
