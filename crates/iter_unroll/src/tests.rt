@@ -1,5 +1,9 @@
 // Spans of iterators, and the straight code of loops, lets, indices and branches.
 
+ghost use Rattle.std.specs.Prelude.{IfOk};
+ghost use Rattle.iter_unroll.specs.Uses.{flat_uses};
+ghost use Rattle.iter_unroll.specs.Span.{HoldsAll};
+
 use crate::bounds::span;
 use crate::tree::{Flat, FlatExpr, FlatStmt};
 use crate::whole::unroll;
@@ -18,7 +22,9 @@ const ARRAYS: &[u8] = b"record r { a: [u16; 4]; b: u64; next: ptr; } iter i on r
 pad { x: [u8; 4]; y: u64; } init(head: ptr) { go head; } ";
 
 // The straight code of the iterator with these blocks.
-fn flat_of(rt: &impl Abort, alloc: Global, front: &[u8], blocks: &[u8]) -> Result<Flat, Fail> {
+fn flat_of(rt: &impl Abort, alloc: Global, front: &[u8], blocks: &[u8]) -> Result<Flat, Fail>
+    ensures { IfOk result (λ flat. HoldsAll (0, flat.record_size) (flat_uses flat)) }
+{
     let mut text: Bytes = Listed::new(alloc);
     text.append(front)?;
     text.append(blocks)?;
@@ -27,7 +33,8 @@ fn flat_of(rt: &impl Abort, alloc: Global, front: &[u8], blocks: &[u8]) -> Resul
     let program = parse(alloc, text.as_slice())?;
     let checked = check(alloc, program)?;
     assert!(rt; checked.iters() == 1);
-    Ok(unroll(alloc, &checked, 0)?)
+    let flat = unroll(alloc, &checked, 0)?;
+    Ok(flat)
 }
 
 #[test]
