@@ -4,7 +4,7 @@ use Rattle.std.specs.Prelude.{slice_get}
 use Rattle.run_laws.specs.Plan.{Frame, AsLeg, AsBack, Plan, put}
 use Rattle.run_laws.specs.Flat.{Answer}
 use Rattle.run_laws.specs.Client.{Asking, Answered, hears, heard_asking, asks_asking, ticks_asking}
-use Rattle.run_laws.specs.World.{To, ToSwitch, ToNode, ToClient, Letter, World, Ask, Tick, Deliver, TurnOf, Delivered, DeliveredAt, TurnedAt}
+use Rattle.run_laws.specs.World.{To, ToSwitch, ToNode, ToClient, Letter, World, Ask, Tick, Resend, Deliver, TurnOf, Delivered, DeliveredAt, TurnedAt}
 use Rattle.run_laws.specs.Laws.{AnswersStay}
 use Rattle.run_laws.proofs.LegNumbers.{by_cases}
 use Rattle.run_laws.proofs.Events.{put_here, put_there}
@@ -34,5 +34,6 @@ turned_at P w v n r a (inr (new, q, k, t, x, d)) e = ap (λ (x : World). x.askin
 pub answers_stay : AnswersStay
 answers_stay P tries w v (Ask q) r a h e = ap (λ (x : World). x.asking r) h ∙ put_stays w.asking q (asks_asking P q) r a refl e
 answers_stay P tries w v (Tick q) r a h e = ap (λ (x : World). x.asking r) h ∙ put_stays w.asking q (ticks_asking tries) r a refl e
+answers_stay P tries w v (Resend q) r a h e = ap (λ (x : World). x.asking r) h ∙ e
 answers_stay P tries w v (Deliver k) r a h e = delivered_at P w v (slice_get w.letters k) r a h e
 answers_stay P tries w v (TurnOf n) r a h e = turned_at P w v n r a h e

@@ -1,29 +1,19 @@
 -- A step of the drain gives the answer, or brings the last letter nearer to it.
-use Rattle.std.proofs.Common.{◌≡◌, ◌≢◌, ℕ, zero, suc, ◌+◌, ◌-◌, ◌*◌, ◌<◌, ◌≤◌, ◌⊎◌, inl, inr, Bool, true, false, List, [], ◌∷◌, ◌++◌, length, Option, Some, None, refl, sym, ap, ◌∙◌, subst, arith, nat_eq, nat_lt, if◌then◌else◌, eqb-true}
+use Rattle.std.proofs.Common.{◌≡◌, ◌≢◌, ℕ, zero, suc, ◌<◌, ◌≤◌, ◌⊎◌, inl, inr, Bool, true, false, List, [], ◌∷◌, ◌++◌, Option, Some, None, refl, sym, ap, ◌∙◌, subst, arith, nat_eq, nat_lt, if◌then◌else◌, eqb-true}
 use Rattle.std.proofs.lemmas.Bool.{eqb-false}
-use Rattle.std.proofs.Math.Nat.{mul-le-mul_right}
 use Rattle.run_laws.specs.Plan.{Unmapped, NotReadable, Progress, Leg, Ending, Done, Reroute, Resume, Fault, Back, Frame, AsLeg, AsBack, back_of, Plan, limit, Here, Barred, Nowhere, arrival, owned, arrive_on, put}
 use Rattle.run_laws.specs.Flat.{Flat, Answer, Spent}
 use Rattle.run_laws.specs.Node.{Slot, Running, Kept, Node, put_at, with_slot, Accepted, Foreign, Replies, RunsAlready, Elsewhere, Full, Started, Accepts, Turned, Stays, Ends, turned_slot, Iterates}
 use Rattle.run_laws.specs.Client.{Asking, Asked, Answered, Heard, Stale, Answers, Sends, next_leg, hears_ending, hears, heard_asking}
 use Rattle.run_laws.specs.World.{To, ToSwitch, ToNode, ToClient, Letter, to_switch, accepted_sends, turned_sends, routed, rerouted_leg, switched_back, heard_sends, World, Delivered}
-use Rattle.run_laws.specs.Spines.Spine.{Spine, entry, sent_leg, resumes}
-use Rattle.run_laws.specs.Spines.Fits.{IsSpine, BackFits, FrameFits}
+use Rattle.run_laws.specs.Spines.Spine.{sent_leg}
+use Rattle.run_laws.specs.Spines.Fits.{BackFits, FrameFits}
 use Rattle.run_laws.specs.Spines.Sound.{Each, IsSound}
 use Rattle.run_laws.specs.Spines.Drain.{IsIdle, AllIdle, StageBy, Draining, Settles, SettlesAt, measure, GoesOn, DrainAdvances}
-use Rattle.run_laws.proofs.LegNumbers.{leg_low, by_cases, sent_leg_is}
+use Rattle.run_laws.proofs.LegNumbers.{by_cases}
+use Rattle.run_laws.proofs.FewLegs.{number_few}
 use Rattle.run_laws.proofs.Backs.{kept_is, back_number, reroute_fits}
 use Rattle.run_laws.proofs.Events.{put_here, put_there, same_number, put_same, put_self, delivered_keeps}
-
--- The number of a leg that was sent is below the limit.
-made_few : (q b n left m : ℕ) → q < n → 1 ≤ left → left ≤ b → m ≤ q * b + (b - left) → m < n * b
-made_few q b n left m h one most e = let d : (q + 1) * b ≤ n * b = mul-le-mul_right b (omega (arith, h)) in omega (arith, d, one, most, e)
-
-pub number_few : (P : Plan) (r k : ℕ) (s : Spine) (l : Leg) → IsSpine P r s → sent_leg P r s.past s.stand k ≡ Some l → k < limit P
-number_few P r k s l w e =
-    let low = leg_low P r s.past k l (sent_leg_is P r s.past s.stand k l e) in
-    let few = made_few (resumes s.past) P.budget P.rounds (entry P r s.past).left (length s.past) w.rounds w.entered.some w.entered.most w.many in
-    omega (arith, low, few)
 
 less_same : (P : Plan) (j a b : ℕ) → a < b → measure P j a < measure P j b
 less_same P j a b h = omega (arith, h)

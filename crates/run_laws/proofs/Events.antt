@@ -6,7 +6,7 @@ use Rattle.run_laws.specs.Plan.{NotReadable, Progress, Leg, Fault, Back, Frame, 
 use Rattle.run_laws.specs.Flat.{FlatRequest, Flat, flat_next, new_bytes, settled, flat_at, flat_turn, flat_step, flat_run, is_here, can_turn, is_legal}
 use Rattle.run_laws.specs.Node.{Slot, Fresh, Running, Kept, Node, put_at, with_slot, Accepted, Foreign, Replies, RunsAlready, Elsewhere, Full, Started, Accepts, Turned, Stays, Ends, turned, turned_slot, Iterates}
 use Rattle.run_laws.specs.Client.{Asking}
-use Rattle.run_laws.specs.World.{To, ToSwitch, ToNode, ToClient, Letter, to_switch, accepted_sends, turned_sends, switched, World, Event, Ask, Tick, Deliver, TurnOf, Delivered, DeliveredAt, TurnedAt, RunsTo}
+use Rattle.run_laws.specs.World.{To, ToSwitch, ToNode, ToClient, Letter, to_switch, accepted_sends, turned_sends, switched, resends, World, Event, Ask, Tick, Resend, Deliver, TurnOf, Delivered, DeliveredAt, TurnedAt, RunsTo}
 use Rattle.run_laws.specs.Spines.Spine.{Spine, fresh, sent_leg, became}
 use Rattle.run_laws.specs.Spines.Fits.{blocked, early, FrameFits, RequestView, Fits}
 use Rattle.run_laws.specs.Spines.Sound.{Each, view, IsSound, EachEventKeeps}
@@ -17,9 +17,9 @@ use Rattle.run_laws.proofs.Starts.{started}
 use Rattle.run_laws.proofs.LiveLeg.{CanStep}
 use Rattle.run_laws.proofs.NextLeg.{is_barred, view_turned, turns}
 use Rattle.run_laws.proofs.Backs.{kept_is, back_number}
-use Rattle.run_laws.proofs.OneRequest.{FrameIn, Changes, asks_change, ticks_change, hears_change, route_fits, switched_fits}
+use Rattle.run_laws.proofs.OneRequest.{FrameIn, Changes, asks_change, ticks_change, resends_fit, hears_change, route_fits, switched_fits}
 
-each_append : {A : Type 0} (P : A → Type 0) (xs ys : List A) → Each P xs → Each P ys → Each P (xs ++ ys)
+pub each_append : {A : Type 0} (P : A → Type 0) (xs ys : List A) → Each P xs → Each P ys → Each P (xs ++ ys)
 each_append P [] ys f g = g
 each_append P (x ∷ xs) ys f g = (f.0, each_append P xs ys f.1 g)
 
@@ -46,7 +46,7 @@ same_number r = grind arith
 pub put_same : {A : Type 0} (f : ℕ → A) (r : ℕ) (x : A) → put f r x r ≡ x
 put_same f r x = put_here f r x r (same_number r)
 
-not_same : (q r : ℕ) → q ≢ r → nat_eq q r ≡ false
+pub not_same : (q r : ℕ) → q ≢ r → nat_eq q r ≡ false
 not_same q r h = by_cases (nat_eq q r) (λ e. absurd (h (eqb-true q r e))) (λ e. e)
 
 in_fits : (P : Plan) (s : ℕ → Spine) (r : ℕ) (f : Frame) → FrameIn P r (s r) f → FrameFits P s f
@@ -315,6 +315,9 @@ turn_at_keeps P start w v n s (inr (new, r, k, t, e, d)) = subst (IsSound P star
 pub each_event_keeps : EachEventKeeps
 each_event_keeps P tries start w v (Ask r) s e = subst (IsSound P start) (sym e) (asking_changed P start w r _ _ s (asks_change P r (view w (flat_run P start w.order) r) (s.spines r) (s.fits r)))
 each_event_keeps P tries start w v (Tick r) s e = subst (IsSound P start) (sym e) (asking_changed P start w r _ _ s (ticks_change P tries r (view w (flat_run P start w.order) r) (s.spines r) (s.fits r)))
+each_event_keeps P tries start w v (Resend r) s e =
+    let v0 = view w (flat_run P start w.order) r in
+    subst (IsSound P start) (sym e) (letters_added P start w r (resends (w.asking r)) s (resends_fit P r v0 (s.spines r) (w.asking r) refl (s.fits r)))
 each_event_keeps P tries start w v (Deliver k) s e = delivery_keeps P start w v k (slice_get w.letters k) s refl e
 each_event_keeps P tries start w v (TurnOf n) s e = turn_at_keeps P start w v n s e
 

@@ -1,6 +1,7 @@
 -- Legs and slots of a spine
 pub mod LegNumbers
 pub mod Newest
+pub mod FewLegs
 -- What each event does to one request's spine
 pub mod Follows
 pub mod Starts
@@ -15,4 +16,6 @@ pub mod Events
 pub mod First
 pub mod Sentences
 pub mod AnswersStay
+pub mod Shapes
+pub mod KeptSent
 pub mod DrainStep

@@ -1,10 +1,10 @@
 -- What an event changes of one request, with the letters that it sends.
-use Rattle.std.proofs.Common.{◌≡◌, ℕ, suc, ◌⊎◌, inl, inr, List, [], ◌∷◌, Option, Some, None, refl, sym, ap, subst, nat_eq, if◌then◌else◌}
+use Rattle.std.proofs.Common.{◌≡◌, ℕ, suc, ◌⊎◌, inl, inr, List, [], ◌∷◌, Option, Some, None, refl, sym, ap, subst, nat_le, if◌then◌else◌}
 use Rattle.run_laws.specs.Plan.{Leg, Ending, Done, Reroute, Resume, Fault, Back, Frame, AsLeg, AsBack, Begun, Begins, Finished, Faulted, Plan, arrival}
 use Rattle.run_laws.specs.Flat.{Silent, due}
 use Rattle.run_laws.specs.Node.{Kept}
 use Rattle.run_laws.specs.Client.{Asking, NotAsked, Asked, Answered, Heard, Stale, Answers, Sends, hears, heard_asking, first_leg, begun_asking, asks_asking, ticks_asking}
-use Rattle.run_laws.specs.World.{Letter, to_switch, routed, route, rerouted_leg, switched_back, switched, begun_sends, asks_sends, ticks_sends, heard_sends}
+use Rattle.run_laws.specs.World.{Letter, to_switch, routed, route, rerouted_leg, switched_back, switched, begun_sends, asks_sends, ticks_sends, resends, heard_sends}
 use Rattle.run_laws.specs.Spines.Spine.{Held, Waiting, Spine, fresh, sent_leg, became, flat_stand, flat_begun}
 use Rattle.run_laws.specs.Spines.Fits.{BegunFits, IsSpine, InRound, AskingFits, blocked, early, BackFits, RequestView, Fits}
 use Rattle.run_laws.specs.Spines.Sound.{Each}
@@ -67,7 +67,7 @@ round_request P r s l e = (leg_number P r s.past l.number l (sent_leg_is P r s.p
 ticks_case : (P : Plan) (tries r : ℕ) (v : RequestView) (s : Spine) (g : Asking) → v.asking ≡ g → Fits P r v s → Changes P r s (record v { asking = ticks_asking tries g }) (ticks_sends tries g)
 ticks_case P tries r v s NotAsked e f = nothing P r s _ (subst (λ g. Fits P r (record v { asking = g }) s) e f)
 ticks_case P tries r v s (Answered a) e f = nothing P r s _ (subst (λ g. Fits P r (record v { asking = g }) s) e f)
-ticks_case P tries r v s (Asked l c t) e f = by_cases (nat_eq t tries)
+ticks_case P tries r v s (Asked l c t) e f = by_cases (nat_le tries t)
     (λ q. subst (λ b. Changes P r s (record v { asking = if b then Answered Silent else Asked l c (suc t) }) (if b then [] else to_switch (AsLeg l) ∷ [])) (sym q)
     (nothing P r s _ (record { spine = f.spine; flat = f.flat; slots = f.slots; asking = inl refl })))
     (λ q. let i : InRound P r s.past s.stand l c = subst (AskingFits P r s) e f.asking in
@@ -78,6 +78,14 @@ ticks_case P tries r v s (Asked l c t) e f = by_cases (nat_eq t tries)
 -- a tick
 pub ticks_change : (P : Plan) (tries r : ℕ) (v : RequestView) (s : Spine) → Fits P r v s → Changes P r s (record v { asking = ticks_asking tries v.asking }) (ticks_sends tries v.asking)
 ticks_change P tries r v s f = ticks_case P tries r v s v.asking refl f
+
+-- a leg that is sent again
+pub resends_fit : (P : Plan) (r : ℕ) (v : RequestView) (s : Spine) (g : Asking) → v.asking ≡ g → Fits P r v s → Each (λ m. FrameIn P r s m.frame) (resends g)
+resends_fit P r v s NotAsked e f = tt
+resends_fit P r v s (Answered a) e f = tt
+resends_fit P r v s (Asked l c t) e f =
+    let d = current_sent P r s.past s.stand l c (subst (AskingFits P r s) e f.asking) in
+    ((round_request P r s l d, d), tt)
 
 hears_sent : (P : Plan) (r : ℕ) (s : Spine) (h : Heard) → SendsFit P r s h → Each (λ m. FrameIn P r s m.frame) (heard_sends h)
 hears_sent P r s Stale f = tt

@@ -8,6 +8,7 @@ use Rattle.run_laws.specs.Spines.Spine.{Waiting, Spine, leg_at, sent_leg, became
 use Rattle.run_laws.specs.Spines.Fits.{IsSpine, blocked, early, BackFits, FrameFits, RequestView, Fits}
 use Rattle.run_laws.specs.Spines.Sound.{view, SoundSays}
 use Rattle.run_laws.proofs.LegNumbers.{by_cases, became_head}
+use Rattle.run_laws.proofs.FewLegs.{frame_few}
 use Rattle.run_laws.proofs.LiveLeg.{live}
 use Rattle.run_laws.proofs.Backs.{kept_is, early_names}
 use Rattle.run_laws.proofs.Round.{early_newest}
@@ -67,4 +68,5 @@ says_all P start w s = record {
       let fb = frame_fits P s.spines x b g (each_get _ w.letters i x e s.letters) in
       let fc = frame_fits P s.spines y c h (each_get _ w.letters j y f s.letters) in
       backs_by P (s.spines b.request) b c (s.fits b.request).spine q n fb (subst (λ (r : ℕ). BackFits P (s.spines r) c) (sym q) fc);
+  numbers_low = λ k m e. frame_few P s.spines m.frame (λ r. (s.fits r).spine) (each_get (λ m. FrameFits P s.spines m.frame) w.letters k m e s.letters);
 }

@@ -3,3 +3,4 @@ pub mod Spine
 pub mod Fits
 pub mod Sound
 pub mod Drain
+pub mod Carries

@@ -1,6 +1,6 @@
 -- The world: nodes, clients' states, letters and the order; and what each event does. A letter that no event delivers is lost, one
 -- that several deliver is repeated, and letters come in any order.
-use Rattle.std.specs.Prelude.{◌≡◌, ℕ, suc, ◌⊎◌, List, [], ◌∷◌, ◌++◌, Option, Some, None, nat_eq, if◌then◌else◌, slice_get}
+use Rattle.std.specs.Prelude.{◌≡◌, ℕ, suc, ◌⊎◌, List, [], ◌∷◌, ◌++◌, Option, Some, None, nat_le, if◌then◌else◌, slice_get}
 use Rattle.run_laws.specs.Plan.{Unmapped, Leg, Ending, Done, Reroute, Resume, Fault, Back, Frame, AsLeg, AsBack, leg_of, back_of, Begun, Begins, Finished, Faulted, Plan, put}
 use Rattle.run_laws.specs.Node.{Node, Accepted, Foreign, Replies, RunsAlready, Elsewhere, Full, Started, Accepts, Turned, Stays, Ends, Iterates}
 use Rattle.run_laws.specs.Client.{Asking, NotAsked, Asked, Answered, Heard, Stale, Answers, Sends, hears, heard_asking, first_leg, asks_asking, ticks_asking}
@@ -65,8 +65,14 @@ asks_sends P r (Answered a) = []
 
 abbrev pub ticks_sends : ℕ → Asking → List Letter
 ticks_sends tries NotAsked = []
-ticks_sends tries (Asked l c t) = if nat_eq t tries then [] else to_switch (AsLeg l) ∷ []
+ticks_sends tries (Asked l c t) = if nat_le tries t then [] else to_switch (AsLeg l) ∷ []
 ticks_sends tries (Answered a) = []
+
+-- the drain's: the current leg again, and no tick is counted
+abbrev pub resends : Asking → List Letter
+resends NotAsked = []
+resends (Asked l c t) = to_switch (AsLeg l) ∷ []
+resends (Answered a) = []
 
 abbrev pub heard_sends : Heard → List Letter
 heard_sends Stale = []
@@ -80,10 +86,11 @@ pub record World : Type 0 where
   pub letters : List Letter
   pub order : List ℕ
 
--- ask a request, tick it, deliver a letter, or one turn of a node
+-- ask a request, tick it, deliver a letter, or one turn of a node; and the drain's own, a leg again without a tick
 pub data Event : Type 0 where
   Ask : ℕ → Event
   Tick : ℕ → Event
+  Resend : ℕ → Event
   Deliver : ℕ → Event
   TurnOf : ℕ → Event
 
@@ -113,6 +120,7 @@ TurnedAt P w v n = (v ≡ w) ⊎ TurnMade P n w v
 abbrev pub Happens : Plan → ℕ → World → World → Event → Type 0
 Happens P tries w v (Ask r) = v ≡ record w { asking = put w.asking r (asks_asking P r (w.asking r)); letters = w.letters ++ asks_sends P r (w.asking r) }
 Happens P tries w v (Tick r) = v ≡ record w { asking = put w.asking r (ticks_asking tries (w.asking r)); letters = w.letters ++ ticks_sends tries (w.asking r) }
+Happens P tries w v (Resend r) = v ≡ record w { letters = w.letters ++ resends (w.asking r) }
 Happens P tries w v (Deliver k) = DeliveredAt P w v (slice_get w.letters k)
 Happens P tries w v (TurnOf n) = TurnedAt P w v n
 

@@ -7,6 +7,7 @@
 #![tactic(auto)]
 
 ghost use Rattle.run_laws.specs.Laws.{AnswersStay, FlatRunExplains};
+ghost use Rattle.run_laws.specs.Spines.Carries.{EachEventKeepsShape, EachEventKeepsSent, FirstCarries};
 ghost use Rattle.run_laws.specs.Spines.Drain.{DrainAdvances};
 ghost use Rattle.run_laws.specs.Spines.Sound.{EachEventKeeps, FirstIsSound, SoundExplains, SoundSays};
 
@@ -44,4 +45,20 @@ pub fn law_sound_says()
 /// A step of the drain gives the answer, or lowers the measure of the last letter.
 pub fn law_drain_advances()
     ensures { DrainAdvances }
+{}
+
+/// Letters, slots and clients carry pointers below 2^64, pads of their request's size and at most the budget; regions
+/// keep their lengths.
+pub fn law_each_event_keeps_shape()
+    ensures { EachEventKeepsShape }
+{}
+
+/// Each back that a node keeps was sent.
+pub fn law_each_event_keeps_sent()
+    ensures { EachEventKeepsSent }
+{}
+
+/// Before the first event each has its shape, and nothing is kept.
+pub fn law_first_carries()
+    ensures { FirstCarries }
 {}

@@ -1,6 +1,6 @@
 -- Sound: each request has a spine that explains what is there of it, each letter is of a spine, and the nodes hold the flat memory.
-use Rattle.std.specs.Prelude.{◌≡◌, ℕ, List, [], ◌∷◌, Some, slice_get, IsTrue}
-use Rattle.run_laws.specs.Plan.{Progress, Back, AsBack, Plan}
+use Rattle.std.specs.Prelude.{◌≡◌, ℕ, ◌<◌, List, [], ◌∷◌, Some, slice_get, IsTrue}
+use Rattle.run_laws.specs.Plan.{Progress, Back, Frame, AsLeg, AsBack, Plan, limit}
 use Rattle.run_laws.specs.Flat.{Flat, flat_run, is_legal}
 use Rattle.run_laws.specs.Node.{Running, Kept}
 use Rattle.run_laws.specs.World.{Letter, World, Event, Happens}
@@ -52,10 +52,19 @@ BacksEqual w =
     (i j : ℕ) (x y : Letter) (b c : Back) → slice_get w.letters i ≡ Some x → slice_get w.letters j ≡ Some y → x.frame ≡ AsBack b → y.frame ≡ AsBack c
     → b.request ≡ c.request → b.number ≡ c.number → b ≡ c
 
-pub record Says (w : World) : Type 0 where
+-- A leg's number is below the iterations that its request may make in all.
+abbrev pub number_in : Frame → ℕ
+number_in (AsLeg l) = l.number
+number_in (AsBack b) = b.number
+
+abbrev pub NumbersLow : Plan → World → Type 0
+NumbersLow P w = (k : ℕ) (m : Letter) → slice_get w.letters k ≡ Some m → number_in m.frame < limit P
+
+pub record Says (P : Plan) (w : World) : Type 0 where
   pub one_live : OneLive w
   pub kept_alone : KeptAlone w
   pub backs_equal : BacksEqual w
+  pub numbers_low : NumbersLow P w
 
 abbrev pub SoundSays : Type 0
-SoundSays = (P : Plan) (start : Flat) (w : World) → IsSound P start w → Says w
+SoundSays = (P : Plan) (start : Flat) (w : World) → IsSound P start w → Says P w
