@@ -1,2 +1,5 @@
 mod WordLaws
 mod ImageLaws
+mod Unique
+mod Only
+mod First

@@ -37,3 +37,11 @@ pub record Spells (bytes : List ℕ) (image : Image) : Type 0 where
   pub init : All OperandsFit image.init_code
   pub body : All OperandsFit image.body_code
   pub spelling : bytes ≡ image_bytes image
+
+-- two images with the same numbers and the same code
+pub record IsSame (a b : Image) : Type 0 where
+  pub record_size : a.record_size ≡ b.record_size
+  pub pad_size : a.pad_size ≡ b.pad_size
+  pub args : a.args ≡ b.args
+  pub init : a.init_code ≡ b.init_code
+  pub body : a.body_code ≡ b.body_code

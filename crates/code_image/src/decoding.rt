@@ -1,9 +1,11 @@
 // From bytes to images.
 
-ghost use Rattle.std.specs.Prelude.{◌≡◌, ◌≢◌, Bool, length, All, IfOk, IfErr, IsTrue};
+ghost use Rattle.std.specs.Prelude.{◌≡◌, ◌≢◌, Bool, length, All, IfOk, IfErr, IsErrAnd, IsTrue};
 ghost use Rattle.pulse_isa.specs.Spelling.{HasSpelling};
 ghost use Rattle.code_verify.specs.declared.bad.Bad.{Bad};
-ghost use Rattle.code_image.specs.Spelling.{Spells};
+ghost use Rattle.code_image.specs.declared.image.Image.{Image};
+ghost use Rattle.code_image.specs.declared.fault.ImageFault.{ImageFault};
+ghost use Rattle.code_image.specs.Spelling.{Spells, IsSame};
 ghost use Rattle.code_image.specs.Checks.{header_fault, words_len, sizes_fit, within, IsBadFirst, Refuses, RefusesWords};
 ghost use Rattle.code_image.specs.Parts.{IsMadeOf, IsImageOf};
 
@@ -94,8 +96,8 @@ fn image_of(alloc: Global, header: Header, rest: &[u8]) -> Result<Image, ImageFa
     verified(header, init_code, body_code)
 }
 
-/// The image that the bytes spell, all of them.
-pub fn decode(alloc: Global, bytes: &[u8]) -> Result<Image, ImageFault>
+// The image that the bytes spell, or the first check that fails.
+fn read(alloc: Global, bytes: &[u8]) -> Result<Image, ImageFault>
     ensures image { IfOk result (λ image. Spells bytes.now image) }
     ensures refused { IfErr result (λ e. e ≢ ImageFault.Memory → Refuses bytes.now e) }
 {
@@ -107,4 +109,15 @@ pub fn decode(alloc: Global, bytes: &[u8]) -> Result<Image, ImageFault>
         Some(fault) => Err(fault),
         None => image_of(alloc, header, rest),
     }
+}
+
+/// The image that the bytes spell, all of them: bytes spell at most one, and those of an image that was encoded spell
+/// that image. Other bytes are refused by the first check that fails.
+pub fn decode(alloc: Global, bytes: &[u8]) -> Result<Image, ImageFault>
+    ensures image { IfOk result (λ image. Spells bytes.now image) }
+    ensures refused { IfErr result (λ e. e ≢ ImageFault.Memory → Refuses bytes.now e) }
+    ensures only { (image : Image) → Spells bytes.now image → IfOk result (λ found. IsSame found image) × IfErr result (λ e. e ≡ ImageFault.Memory) }
+    ensures first { (fault : ImageFault) → Refuses bytes.now fault → IsErrAnd result (λ e. e ≢ ImageFault.Memory → e ≡ fault) }
+{
+    read(alloc, bytes)
 }

@@ -2,7 +2,7 @@
 
 ghost use Rattle.std.specs.Prelude.{ℕ, ◌≡◌, ◌≢◌, ◌+◌, ◌*◌, ◌<◌, ◌≤◌, ◌^◌, ◌++◌, length, take, drop, All, IfOk, IfErr, OnOk};
 ghost use Rattle.pulse_isa.specs.Spelling.{HasSpelling};
-ghost use Rattle.code_image.specs.Spelling.{words};
+ghost use Rattle.code_image.specs.Spelling.{words, OperandsFit};
 ghost use Rattle.code_image.specs.Checks.{IsWords, NoWordFirst};
 
 use crate::fault::ImageFault;
@@ -14,7 +14,8 @@ use std::alloc::Global;
 /// Appends the words of instructions.
 pub(crate) fn put_words(bytes: &mut Bytes, code: &[Instr]) -> Result<(), Memory>
     requires { All HasSpelling code.now }
-    ensures { OnOk result (bytes.new ≡ bytes.old ++ words code.now) }
+    ensures words { OnOk result (bytes.new ≡ bytes.old ++ words code.now) }
+    ensures fits { OnOk result (All OperandsFit code.now) }
 {
     'words: for i in code {
         bytes.append(&to_word(i))?;

@@ -1,7 +1,10 @@
 -- The rules of the verifier: what holds of each instruction of verified code, by its place.
 use Rattle.std.specs.Prelude.{◌≡◌, ℕ, ◌+◌, ◌<◌, ◌≤◌, ◌⊎◌, Bool, true, false, not, ◌&&◌, ◌||◌, nat_eq, nat_lt, nat_le, List, ◌∷◌, length, Option, Some, None, slice_get, All}
 use Rattle.pulse_isa.specs.declared.instr.Instr.{Instr}
-use Rattle.pulse_isa.specs.declared.instr.Instr.TheVariants.{Load, GetW, PutW, GetP, PutP, GetC, SetL, SetH, Mov, Add, Sub, Mul, Div, Mod, And, Or, Xor, Not, Shl, Shr, Jmp, Jeq, Jne, Jlt, Jle, Return, NextIter}
+use Rattle.pulse_isa.specs.declared.instr.Instr.TheVariants.{Load, GetW, PutW, GetP, PutP, GetC, Return, NextIter}
+use Rattle.pulse_isa.specs.declared.row.Operands.{Operands}
+use Rattle.pulse_isa.specs.declared.row.Operands.TheVariants as o
+use Rattle.pulse_isa.specs.Table.{row}
 use Rattle.pulse_isa.specs.Spelling.{HasSpelling}
 use Rattle.pulse_isa.specs.Step.{Window, is_inside}
 use Rattle.code_verify.specs.declared.bad.Sizes.{Sizes}
@@ -20,35 +23,20 @@ window_of _ = record { off = 0; len = 0 }
 
 -- ---- the rules
 
--- each named register is one of the sixteen
+-- each register that the operands name is one of the sixteen
+abbrev pub are_registers : Operands → Bool
+are_registers (o.Window off len) = true
+are_registers (o.Access a w off) = nat_lt a 16
+are_registers (o.Register a) = nat_lt a 16
+are_registers (o.Constant a imm) = nat_lt a 16
+are_registers (o.TwoRegisters a b) = nat_lt a 16 && nat_lt b 16
+are_registers (o.ThreeRegisters a b c) = nat_lt a 16 && nat_lt b 16 && nat_lt c 16
+are_registers (o.Target to) = true
+are_registers (o.Branch a b to) = nat_lt a 16 && nat_lt b 16
+are_registers o.Nothing = true
+
 abbrev pub registers_fit : Instr → Bool
-registers_fit (Load off len) = true
-registers_fit (GetW a w off) = nat_lt a 16
-registers_fit (PutW a w off) = nat_lt a 16
-registers_fit (GetP a w off) = nat_lt a 16
-registers_fit (PutP a w off) = nat_lt a 16
-registers_fit (GetC a) = nat_lt a 16
-registers_fit (SetL a imm) = nat_lt a 16
-registers_fit (SetH a imm) = nat_lt a 16
-registers_fit (Mov a b) = nat_lt a 16 && nat_lt b 16
-registers_fit (Add a b c) = nat_lt a 16 && nat_lt b 16 && nat_lt c 16
-registers_fit (Sub a b c) = nat_lt a 16 && nat_lt b 16 && nat_lt c 16
-registers_fit (Mul a b c) = nat_lt a 16 && nat_lt b 16 && nat_lt c 16
-registers_fit (Div a b c) = nat_lt a 16 && nat_lt b 16 && nat_lt c 16
-registers_fit (Mod a b c) = nat_lt a 16 && nat_lt b 16 && nat_lt c 16
-registers_fit (And a b c) = nat_lt a 16 && nat_lt b 16 && nat_lt c 16
-registers_fit (Or a b c) = nat_lt a 16 && nat_lt b 16 && nat_lt c 16
-registers_fit (Xor a b c) = nat_lt a 16 && nat_lt b 16 && nat_lt c 16
-registers_fit (Not a b) = nat_lt a 16 && nat_lt b 16
-registers_fit (Shl a b c) = nat_lt a 16 && nat_lt b 16 && nat_lt c 16
-registers_fit (Shr a b c) = nat_lt a 16 && nat_lt b 16 && nat_lt c 16
-registers_fit (Jmp to) = true
-registers_fit (Jeq a b to) = nat_lt a 16 && nat_lt b 16
-registers_fit (Jne a b to) = nat_lt a 16 && nat_lt b 16
-registers_fit (Jlt a b to) = nat_lt a 16 && nat_lt b 16
-registers_fit (Jle a b to) = nat_lt a 16 && nat_lt b 16
-registers_fit Return = true
-registers_fit (NextIter a) = nat_lt a 16
+registers_fit i = are_registers (row i).operands
 
 -- init has no record: it stores to none, and there is no pointer to it
 abbrev pub kind_fits : Bool → Instr → Bool
@@ -69,13 +57,13 @@ pad_fits size (PutP a w off) = nat_le (off + w) size
 pad_fits size _ = true
 
 -- the target of a jump
+abbrev pub target_in : Operands → Option ℕ
+target_in (o.Target to) = Some to
+target_in (o.Branch a b to) = Some to
+target_in _ = None
+
 abbrev pub target_of : Instr → Option ℕ
-target_of (Jmp to) = Some to
-target_of (Jeq a b to) = Some to
-target_of (Jne a b to) = Some to
-target_of (Jlt a b to) = Some to
-target_of (Jle a b to) = Some to
-target_of _ = None
+target_of i = target_in (row i).operands
 
 -- a jump goes to a place above its own, and below the length
 abbrev pub jump_fits : ℕ → ℕ → Option ℕ → Bool

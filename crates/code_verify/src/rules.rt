@@ -2,10 +2,10 @@
 
 ghost use Rattle.std.specs.Prelude.{◌≡◌, ◌+◌, ◌<◌, ◌^◌};
 ghost use Rattle.pulse_isa.specs.Step.{is_inside};
-ghost use Rattle.code_verify.specs.Rules.{is_load, is_end, registers_fit, kind_fits, window_fits, pad_fits, target_of, jump_fits, broken_in, window_of};
+ghost use Rattle.code_verify.specs.Rules.{is_load, is_end, are_registers, kind_fits, window_fits, pad_fits, target_in, jump_fits, broken_in, window_of};
 
 use crate::bad::{BadKind, Sizes};
-use pulse_isa::Instr;
+use pulse_isa::{Instr, Operands, row_of};
 
 /// The window that the first instruction names.
 #[derive(Clone, Copy)]
@@ -35,35 +35,15 @@ fn ends(i: Instr) -> bool
     matches!(i, Instr::Return | Instr::NextIter { .. })
 }
 
-fn named_fit(i: Instr) -> bool
-    ensures { result ≡ registers_fit i }
+fn are_registers(operands: Operands) -> bool
+    ensures { result ≡ are_registers operands }
 {
-    match i {
-        Instr::Load { .. } | Instr::Jmp { .. } | Instr::Return => true,
-        Instr::GetW { a, .. }
-        | Instr::PutW { a, .. }
-        | Instr::GetP { a, .. }
-        | Instr::PutP { a, .. }
-        | Instr::GetC { a }
-        | Instr::SetL { a, .. }
-        | Instr::SetH { a, .. }
-        | Instr::NextIter { a } => a < 16,
-        Instr::Mov { a, b }
-        | Instr::Not { a, b }
-        | Instr::Jeq { a, b, .. }
-        | Instr::Jne { a, b, .. }
-        | Instr::Jlt { a, b, .. }
-        | Instr::Jle { a, b, .. } => a < 16 && b < 16,
-        Instr::Add { a, b, c }
-        | Instr::Sub { a, b, c }
-        | Instr::Mul { a, b, c }
-        | Instr::Div { a, b, c }
-        | Instr::Mod { a, b, c }
-        | Instr::And { a, b, c }
-        | Instr::Or { a, b, c }
-        | Instr::Xor { a, b, c }
-        | Instr::Shl { a, b, c }
-        | Instr::Shr { a, b, c } => a < 16 && b < 16 && c < 16,
+    match operands {
+        Operands::Window { .. } | Operands::Target { .. } | Operands::Nothing => true,
+        Operands::Access { a, .. } | Operands::Register { a } | Operands::Constant { a, .. } => a
+            < 16,
+        Operands::TwoRegisters { a, b } | Operands::Branch { a, b, .. } => a < 16 && b < 16,
+        Operands::ThreeRegisters { a, b, c } => a < 16 && b < 16 && c < 16,
     }
 }
 
@@ -106,15 +86,11 @@ fn pad_is_right(size: u16, i: Instr) -> bool
     }
 }
 
-fn target(i: Instr) -> Option<u32>
-    ensures { result ≡ target_of i }
+fn target(operands: Operands) -> Option<u32>
+    ensures { result ≡ target_in operands }
 {
-    match i {
-        Instr::Jmp { to }
-        | Instr::Jeq { to, .. }
-        | Instr::Jne { to, .. }
-        | Instr::Jlt { to, .. }
-        | Instr::Jle { to, .. } => Some(to),
+    match operands {
+        Operands::Target { to } | Operands::Branch { to, .. } => Some(to),
         _ => None,
     }
 }
@@ -133,13 +109,14 @@ pub fn broken(sizes: Sizes, window: Loaded, len: u32, place: u32, i: Instr) -> O
     requires { place < len }
     ensures { result ≡ broken_in sizes (record { off = window.off; len = window.len }) len place i }
 {
+    let operands = row_of(&i).operands;
     if place == 0 && !loads(i) {
         return Some(BadKind::NoLoad);
     }
     if place != 0 && loads(i) {
         return Some(BadKind::SecondLoad);
     }
-    if !named_fit(i) {
+    if !are_registers(operands) {
         return Some(BadKind::Register);
     }
     if !kind_is_right(sizes.init, i) {
@@ -151,7 +128,7 @@ pub fn broken(sizes: Sizes, window: Loaded, len: u32, place: u32, i: Instr) -> O
     if !pad_is_right(sizes.pad, i) {
         return Some(BadKind::Pad);
     }
-    if !jump_is_right(len, place, target(i)) {
+    if !jump_is_right(len, place, target(operands)) {
         return Some(BadKind::Jump);
     }
     if place + 1 >= len && !ends(i) {

@@ -5,7 +5,8 @@ ghost use Rattle.pulse_isa.specs.Table.{row};
 
 use crate::instr::Instr;
 
-// What a row names beside its opcode, in the order in which the listing names it.
+/// What a row names beside its opcode, in the order in which the listing names it. `a`, `b` and `c` are registers, `w`
+/// is a width in bytes, `off` and `len` count bytes, `imm` is a number and `to` a place.
 #[derive(Clone, Copy, Debug, PartialEq, Eq)]
 pub enum Operands {
     Window { off: u16, len: u16 },
@@ -19,7 +20,7 @@ pub enum Operands {
     Nothing,
 }
 
-// A row: the opcode, the mnemonic and the operands.
+/// A row: the opcode, the mnemonic and the operands.
 #[derive(Clone, Copy)]
 pub struct Row {
     pub opcode: u8,
@@ -27,7 +28,7 @@ pub struct Row {
     pub operands: Operands,
 }
 
-// The row of an instruction.
+/// The row of an instruction.
 pub fn row_of(i: &Instr) -> Row
     ensures opcode { result.opcode ≡ (row i.now).opcode }
     ensures mnemonic { result.mnemonic.now ≡ (row i.now).mnemonic }

@@ -15,7 +15,8 @@ use crate::row::{Operands, row_of};
 /// What its row does not name is zero.
 pub fn to_word(i: &Instr) -> [u8; 8]
     requires { HasSpelling i.now }
-    ensures { result ≡ spelling i.now }
+    ensures spelling { result ≡ spelling i.now }
+    ensures fits { Fits (row i.now).operands }
 {
     let row = row_of(i);
     placed(row.opcode, row.operands)
@@ -38,7 +39,8 @@ pub fn from_word(w: &[u8; 8]) -> Option<Instr>
 
 // The word of an opcode and its operands.
 fn placed(opcode: u8, operands: Operands) -> [u8; 8]
-    ensures { result ≡ placed opcode operands }
+    ensures word { result ≡ placed opcode operands }
+    ensures fits { Fits operands }
 {
     match operands {
         Operands::Window { off, len } => {

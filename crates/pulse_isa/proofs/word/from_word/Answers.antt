@@ -26,7 +26,7 @@ returns-else-has_spelling-clause-exact c = λ i. (
       let same : c.in_ok-i.i ≡ i = cc (c.in_ok-i.was, found) in
       elim c.else-has_spelling.branch [
         | else-has_spelling-via-then-has_spelling+else-eq w ↦
-            let spelled : w.to_word.result ≡ c.args.w.now = w.to_word.ensures ∙ ap spelling same ∙ sym h.word in
+            let spelled : w.to_word.result ≡ c.args.w.now = w.to_word.ensures.spelling ∙ ap spelling same ∙ sym h.word in
             cc ((bytes_eq-Decides w.to_word.result c.args.w.now).1 spelled, w.eq.ensures, w.if-eq.false)
         | else-has_spelling-via-else-has_spelling w ↦ let t : has_spelling i ≡ true = h.width in cc (ap has_spelling same, w.if-has_spelling.false)
       ],
@@ -38,7 +38,7 @@ returns-then-eq-clause-spells c =
     record {
       fits = c.in_ok-i.ensures.fits;
       width = cc (c.has_spelling.ensures, c.if-has_spelling.true);
-      word = sym same ∙ c.to_word.ensures;
+      word = sym same ∙ c.to_word.ensures.spelling;
     }
 
 pub returns-then-eq-clause-exact : goal.returns-then-eq-clause-exact
