@@ -1,0 +1,10 @@
+pub mod Ledgers
+pub mod Regions
+pub mod Parts
+pub mod Answers
+pub mod Nodes
+pub mod Sites
+pub mod Turning
+pub mod Making
+pub mod Rests
+pub mod Pairs
