@@ -1,4 +1,5 @@
 pub mod Answers
+pub mod Asked
 pub mod Ending
 pub mod Lines
 pub mod Steps

@@ -1,13 +1,15 @@
 // The document of a walk.
 
-ghost use Rattle.std.specs.Prelude.{◌≡◌, ◌⊎◌, IfErr};
+ghost use Rattle.std.specs.Prelude.{◌≡◌, ◌⊎◌, ◌<◌, length, IsTrue, IfSome, IfOk, IfErr};
 ghost use Rattle.pulse_cli.specs.Steps.{IsOfInput};
+ghost use Rattle.pulse_cli.specs.Asked.{IsAsked};
 
 use crate::failure::{Failure, Refusal};
 use crate::keys::{has_only, number, number_or, only_table, text_at};
 use arrayvec::ArrayVec;
+use iter_check::{CheckError, check};
 use iter_syntax::{SyntaxFault, parse};
-use pulse_codegen::{Built, CheckError, build, check};
+use pulse_codegen::{Built, build};
 use std::alloc::Global;
 use toml::{Table, Value};
 
@@ -30,7 +32,10 @@ pub(crate) struct Region {
 #[derive(Debug, Drop)]
 pub(crate) struct Plan {
     pub built: Built,
+    /// The number of the request's iterator.
+    pub iter: usize,
     pub region: Region,
+    /// As many as the iterator has.
     pub args: ArrayVec<u64, 8>,
     /// The most iterations: rounds × budget.
     pub limit: u64,
@@ -38,7 +43,8 @@ pub(crate) struct Plan {
 
 /// Reads a document: its one program, region and request.
 pub(crate) fn read(alloc: Global, text: &[u8]) -> Result<Plan, Failure>
-    ensures { IfErr result IsOfInput }
+    ensures refused { IfErr result IsOfInput }
+    ensures asked { IfOk result (λ plan. IsAsked plan.built plan.iter plan.args) }
 {
     let table = match toml::table_from_slice(alloc, text) {
         Ok(table) => table,
@@ -60,9 +66,10 @@ pub(crate) fn read(alloc: Global, text: &[u8]) -> Result<Plan, Failure>
         return Err(Failure::Refused(Refusal::Walk));
     };
     let built = read_program(alloc, &table)?;
-    let args = read_request(request, &built)?;
+    let (iter, args) = read_request(request, &built)?;
     Ok(Plan {
         built,
+        iter,
         region,
         args,
         limit,
@@ -124,28 +131,44 @@ fn read_program(alloc: Global, table: &Table) -> Result<Built, Failure>
     match check(alloc, program) {
         Ok(checked) => Ok(build(alloc, checked)?),
         Err(CheckError::Memory) => Err(Failure::Memory),
-        Err(CheckError::NotSmall) => Err(Failure::Refused(Refusal::Walk)),
+        Err(CheckError::Fault { .. }) => Err(Failure::Refused(Refusal::Walk)),
     }
 }
 
-// The arguments of the request, as many as its iterator has.
-fn read_request(request: &Table, built: &Built) -> Result<ArrayVec<u64, 8>, Failure>
-    ensures { IfErr result IsOfInput }
+// The number of the request's iterator, and its arguments, as many as it has.
+fn read_request(request: &Table, built: &Built) -> Result<(usize, ArrayVec<u64, 8>), Failure>
+    ensures refused { IfErr result IsOfInput }
+    ensures asked { IfOk result (λ r. IsAsked built.now r.0 r.1) }
 {
     let known = has_only(request, &["iter", "args"]);
-    let named = match text_at(request, "iter") {
-        Some(name) => built.checked().has_iter(name.as_bytes()),
-        None => false,
-    };
+    let named = named_iter(request, built);
     let args = match request.get("args") {
         None => Some(ArrayVec::new()),
         Some(list) => read_args(list),
     };
-    match args {
-        Some(args) if known && named && args.len() == usize::from(built.checked().arg_count()) =>
-            Ok(args),
+    match (named, args) {
+        (Some(iter), Some(args)) if known && has_args(built, iter, &args) => Ok((iter, args)),
         _ => Err(Failure::Refused(Refusal::Walk)),
     }
+}
+
+// The number of the iterator that a request names.
+#[tactic(auto, using(crate::proofs::Asked::found_there))]
+fn named_iter(request: &Table, built: &Built) -> Option<usize>
+    ensures { IfSome result (λ iter. iter < length (built.now.checked).iters) }
+{
+    match text_at(request, "iter") {
+        None => None,
+        Some(name) => built.checked().iter_index(name.as_bytes()),
+    }
+}
+
+// Whether these are as many as the iterator has.
+fn has_args(built: &Built, iter: usize, args: &ArrayVec<u64, 8>) -> bool
+    requires there { iter < length (built.now.checked).iters }
+    ensures { IsTrue result → IsAsked built.now iter args.now }
+{
+    args.len() == usize::from(built.image(iter).args)
 }
 
 // At most 8 arguments.

@@ -10,7 +10,6 @@ mod command;
 mod document;
 mod failure;
 mod keys;
-mod machine;
 mod program;
 mod report;
 #[cfg(test)]

@@ -93,8 +93,9 @@ fn answer(alloc: Global, command: &Command, text: &[u8]) -> Result<Bytes, Failur
 fn walk_document(alloc: Global, text: &[u8]) -> Result<Bytes, Failure>
     ensures { Answered Command.Walk text.now result }
 {
-    let plan = read(alloc, text)?;
-    let walked = walk(&plan);
+    let mut plan = read(alloc, text)?;
+    let image = plan.built.image(plan.iter);
+    let walked = walk(image, plan.args.as_slice(), &mut plan.region, plan.limit);
     match report(alloc, &walked, plan.region.bytes.as_slice()) {
         Ok(text) => Ok(Bytes::from_vec(text.into_bytes())),
         Err(_) => Err(Failure::Memory),

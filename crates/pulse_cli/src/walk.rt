@@ -1,9 +1,10 @@
 // A walk over its region.
 
-ghost use Rattle.std.specs.Prelude.{◌≤◌, length};
+ghost use Rattle.std.specs.Prelude.{◌≡◌, ◌+◌, ◌≤◌, length, IfSome};
 
-use crate::document::{Plan, Region};
-use crate::machine::{Ended, run};
+use crate::document::Region;
+use code_image::Image;
+use leg_machine::{Begun, Context, Ended, begin, iterate};
 use pulse_base::{Answer, FaultKind, PadBytes};
 
 /// How many iterations were run, and the answer.
@@ -13,68 +14,59 @@ pub(crate) struct Walked {
     pub answer: Answer,
 }
 
-/// Runs init, and then iterations until the walk is done, meets no record, or has made its most.
-pub(crate) fn walk(plan: &Plan) -> Walked {
-    let checked = plan.built.checked();
-    let mut pad = [0; 256];
-    let pad = &mut pad[..usize::from(checked.pad_size())];
-    let mut cur = match run(plan.built.init_code(), &argument_bytes(plan), 0, pad) {
-        Ended::Go(cur) => cur,
-        Ended::Done => return done(0, pad),
+/// Runs the init of an image, and then iterations at the region's own bytes, until the walk is done, faults, meets no
+/// record, or has made its most.
+pub(crate) fn walk(image: &Image, args: &[u64], region: &mut Region, limit: u64) -> Walked
+    requires { length args.now ≡ image.now.args }
+{
+    let mut context = match begin(image, args) {
+        Begun::Go { cur, pad } => Context { cur, pad },
+        Begun::Done { pad } => return done(0, pad),
+        Begun::DivZero => return fault(0, FaultKind::DivZero, 0, 0),
     };
-    for turns in 0..plan.limit {
-        let Some(record) = record_at(&plan.region, cur, usize::from(checked.record_size())) else {
-            let kind = FaultKind::Unmapped;
-            return Walked {
-                turns,
-                answer: Answer::Fault {
-                    kind,
-                    cur,
-                    count: turns,
-                },
-            };
+    let size = usize::from(image.record_size);
+    'turns: for count in 0..limit {
+        let Some(at) = place_of(region, context.cur, size) else {
+            return fault(count, FaultKind::Unmapped, context.cur, count);
         };
-        match run(plan.built.body_code(), record, cur, pad) {
-            Ended::Go(to) => cur = to,
-            Ended::Done => return done(turns + 1, pad),
+        let record = &mut region.bytes[at..at + size];
+        match iterate(&mut context, image, record, true) {
+            Ended::Go => {}
+            Ended::Done => return done(count + 1, context.pad),
+            Ended::NotWritable => {
+                return fault(count + 1, FaultKind::NotWritable, context.cur, count);
+            }
+            Ended::DivZero => return fault(count + 1, FaultKind::DivZero, context.cur, count),
         }
     }
     Walked {
-        turns: plan.limit,
-        answer: Answer::Spent { count: plan.limit },
+        turns: limit,
+        answer: Answer::Spent { count: limit },
     }
 }
 
-fn done(turns: u64, pad: &[u8]) -> Walked
-    requires some { 1 ≤ length pad.now }
-    requires fits { length pad.now ≤ 256 }
-{
+fn done(count: u64, pad: PadBytes) -> Walked {
+    Walked {
+        turns: count,
+        answer: Answer::Done { pad, count },
+    }
+}
+
+fn fault(turns: u64, kind: FaultKind, cur: u64, count: u64) -> Walked {
     Walked {
         turns,
-        answer: Answer::Done {
-            pad: PadBytes::of(pad),
-            count: turns,
-        },
+        answer: Answer::Fault { kind, cur, count },
     }
 }
 
-// The arguments, 8 bytes each, and zeros after them.
-fn argument_bytes(plan: &Plan) -> [u8; 64] {
-    let mut bytes = [0; 64];
-    for (at, arg) in plan.args.as_slice().iter().enumerate() {
-        if at < 8 {
-            bytes[8 * at..8 * at + 8].copy_from_slice(&arg.to_le_bytes());
-        }
-    }
-    bytes
-}
-
-// The bytes of the record at a pointer, where the region holds them all.
-fn record_at(region: &Region, cur: u64, size: usize) -> Option<&[u8]> {
-    let bytes = region.bytes.as_slice();
+// Where the record at a pointer begins in the region, if the region holds all of it.
+fn place_of(region: &Region, cur: u64, size: usize) -> Option<usize>
+    ensures { IfSome result (λ at. at + size ≤ length region.now.bytes.items) }
+{
     let at = usize::try_from(cur.checked_sub(region.base)?).ok()?;
-    if size > bytes.len() || at > bytes.len() - size {
+    let len = region.bytes.len();
+    if size > len || at > len - size {
         return None;
     }
-    Some(&bytes[at..at + size])
+    Some(at)
 }

@@ -1,1 +1,5 @@
-pub mod OneLoad
+pub mod Compiles
+pub mod Emits
+pub mod Folds
+pub mod Rows
+pub mod Whole

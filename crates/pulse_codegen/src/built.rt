@@ -1,25 +1,28 @@
-// Code for a checked program.
+// A compiled program.
 
-ghost use Rattle.std.specs.Prelude.{◌≡◌, ◌*◌, IfOk};
-ghost use Rattle.pulse_codegen.specs.OneLoad.{LoadsOnce};
+ghost use Rattle.std.specs.Prelude.{◌≡◌, ◌<◌, length, IfOk, slice_get, Some};
+ghost use Rattle.iter_unroll.specs.Uses.{flat_uses};
+ghost use Rattle.iter_unroll.specs.Span.{IsSpan};
+ghost use Rattle.pulse_codegen.specs.Compiled.{Compiles, CompilesAll};
+ghost use Rattle.pulse_codegen.specs.Flat.{Fits, IsImageOfFlat};
 
-use crate::checked::Checked;
-use crate::emit::{emit_go, emit_puts, emit_test};
+use crate::segments::{body_segment, init_segment};
+use code_image::Image;
+use iter_check::Checked;
+use iter_unroll::{Flat, span, unroll};
 use pulse_base::{Listed, Memory};
-use pulse_isa::Instr;
 use std::alloc::Global;
 
-/// The instructions of a segment, by their places from 0 on.
-pub type Code = Listed<Instr>;
+/// The images of a program's iterators, by their numbers.
+pub type Images = Listed<Image>;
 
-/// A checked program and the code of its iterator.
+/// A checked program and its images. Image `i` means iterator `i`: a run of its body is an iteration, and a run of its
+/// init begins a walk. Its body loads once, and just the bytes that the iterator uses.
 #[derive(Debug, Drop)]
 pub struct Built {
-    checked: Checked,
-    init_code: Code,
-    body_code: Code,
-    ghost init_loads: { LoadsOnce (checked.small.args * 8) init_code },
-    ghost body_loads: { LoadsOnce checked.small.record_size body_code },
+    pub checked: Checked,
+    pub images: Images,
+    pub ghost compiled: { CompilesAll checked images },
 }
 
 impl Built {
@@ -30,62 +33,75 @@ impl Built {
         &self.checked
     }
 
-    /// The code that runs once, over the arguments. It begins with its one `LOAD`, of all of them.
-    pub fn init_code(&self) -> &Code
-        ensures code { result.now ≡ self.now.init_code }
-        ensures loads { LoadsOnce (self.now.checked.small.args * 8) result.now }
+    /// The image of the iterator of a number.
+    pub fn image(&self, iter: usize) -> &Image
+        requires there { iter < length (self.now.checked).iters }
+        ensures same { slice_get self.now.images iter ≡ Some result.now }
+        ensures means { Compiles self.now.checked iter result.now }
     {
-        &self.init_code
+        self.images.get(iter)
     }
 
-    /// The code of an iteration. It begins with its one `LOAD`, of the whole record.
-    pub fn body_code(&self) -> &Code
-        ensures code { result.now ≡ self.now.body_code }
-        ensures loads { LoadsOnce self.now.checked.small.record_size result.now }
+    /// All the images once more.
+    pub fn copy_images(&self, alloc: Global) -> Result<Images, Memory>
+        ensures { IfOk result (λ images. images ≡ self.now.images) }
     {
-        &self.body_code
+        let mut copies = Images::new(alloc);
+        'copies: for image in self.images.as_slice() {
+            copies.push(copy(alloc, image)?)?;
+        }
+        Ok(copies)
     }
 }
 
-/// Compiles a checked program. It refuses for memory alone, and the program is gone in each case.
-pub fn build(alloc: Global, checked: Checked) -> Result<Built, Memory>
-    ensures { IfOk result (λ b. b.checked ≡ checked) }
+fn copy(alloc: Global, image: &Image) -> Result<Image, Memory>
+    ensures { IfOk result (λ copied. copied ≡ image.now) }
 {
-    let init_code = build_init(alloc, &checked)?;
-    let body_code = build_body(alloc, &checked)?;
-    Ok(Built {
-        checked,
+    let init_code = Listed::from_slice(alloc, image.init_code.as_slice())?;
+    let body_code = Listed::from_slice(alloc, image.body_code.as_slice())?;
+    Ok(Image {
+        record_size: image.record_size,
+        pad_size: image.pad_size,
+        args: image.args,
         init_code,
         body_code,
     })
 }
 
-fn build_init(alloc: Global, checked: &Checked) -> Result<Code, Memory>
-    ensures { IfOk result (LoadsOnce (checked.now.small.args * 8)) }
+/// Compiles a checked program, iterator by iterator. It refuses for memory alone, and the program is gone in each case.
+pub fn build(alloc: Global, checked: Checked) -> Result<Built, Memory>
+    ensures { IfOk result (λ built. built.checked ≡ checked) }
 {
-    let small = checked.small();
-    let mut code = Code::new(alloc);
-    code.push(Instr::Load {
-        off: 0,
-        len: u16::from(checked.arg_count()) * 8,
-    })?;
-    emit_puts(&mut code, small.init_puts.as_slice())?;
-    emit_go(&mut code, small.start)?;
-    Ok(code)
+    let mut images = Images::new(alloc);
+    'iters: for iter in 0..checked.iters() {
+        images.push(compile(alloc, &checked, iter)?)?;
+    }
+    Ok(Built { checked, images })
 }
 
-fn build_body(alloc: Global, checked: &Checked) -> Result<Code, Memory>
-    ensures { IfOk result (LoadsOnce checked.now.small.record_size) }
+// The image of one iterator.
+fn compile(alloc: Global, checked: &Checked, iter: usize) -> Result<Image, Memory>
+    requires there { iter < length (checked.now).iters }
+    ensures { IfOk result (Compiles checked.now iter) }
 {
-    let small = checked.small();
-    let mut code = Code::new(alloc);
-    code.push(Instr::Load {
-        off: 0,
-        len: checked.record_size(),
-    })?;
-    for test in small.tests.as_slice() {
-        emit_test(&mut code, test)?;
-    }
-    emit_go(&mut code, small.next)?;
-    Ok(code)
+    let flat = unroll(alloc, checked, iter)?;
+    let (off, len) = span(&flat);
+    image_of(alloc, &flat, off, len)
+}
+
+// The image of straight code, whose body loads `len` bytes of the record at `off`.
+fn image_of(alloc: Global, flat: &Flat, off: u16, len: u16) -> Result<Image, Memory>
+    requires fits { Fits flat.now }
+    requires least { IsSpan (flat_uses flat.now) (off, len) }
+    ensures { IfOk result (IsImageOfFlat flat.now) }
+{
+    let init_code = init_segment(alloc, flat)?;
+    let body_code = body_segment(alloc, flat, off, len)?;
+    Ok(Image::new(
+        flat.record_size,
+        flat.pad_size,
+        flat.args,
+        init_code,
+        body_code,
+    ))
 }

@@ -1,17 +1,18 @@
-//! From a program to code for memory nodes.
+//! From accepted programs to verified code.
 //!
-//! [`check`] takes a program and finds whether it is a small one, the only kind that compiles today;
-//! [`build`] turns what was checked into two lists of instructions, one for init and one for an iteration.
-//! A small program has one record and one iterator, fields of 8 bytes, and no operator but a test of
-//! equality: `docs/language.md` has its shape.
+//! [`build`] makes an image of each iterator. Read `specs/Means.antt` first: when an image means an iterator. Then
+//! `specs/OneLoad.antt`, what of a record its body loads, and `specs/Compiled.antt`, what is true of every [`Built`].
+//! That is all that a reader must believe. The code itself is defined in `flat_code`; `specs/Measures.antt`, `Extends`,
+//! `Shallow` and `Flat` serve the contracts of the steps that put it. Nothing here reads text or runs code.
 #![tactic(auto)]
 
 mod built;
-mod checked;
-mod emit;
-mod fields;
-mod shape;
-mod small;
+mod extent;
+mod lengths;
+mod segments;
+mod statement;
+#[cfg(test)]
+mod tests;
+mod value;
 
-pub use built::{Built, Code, build};
-pub use checked::{CheckError, Checked, check};
+pub use built::{Built, Images, build};
