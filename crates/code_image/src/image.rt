@@ -10,6 +10,9 @@ use pulse_isa::Instr;
 /// The instructions of a segment, in the order of their places.
 pub type Code = Listed<Instr>;
 
+/// Images by the numbers of their programs.
+pub type Images = Listed<Image>;
+
 /// A compiled iterator. Both segments are verified, so each of their instructions has a spelling: `init_code` for
 /// the arguments, of 8 bytes each, and the pad, and `body_code` for the record and the pad.
 #[derive(Debug, Drop)]

@@ -17,5 +17,5 @@ mod words;
 pub use decoding::decode;
 pub use encoding::encode;
 pub use fault::ImageFault;
-pub use image::{Code, Image};
+pub use image::{Code, Image, Images};
 pub use lister::listing;

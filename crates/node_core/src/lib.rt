@@ -17,7 +17,7 @@ mod tests;
 mod yard;
 
 pub use laws::law_parts_are_orderly;
-pub use node::{Images, Node};
+pub use node::Node;
 pub use part::{NodePart, Turned};
 pub use run_rules::{Accepted, NodeRegion, NodeRegions};
 pub use yard::{MemYard, NodeYard, Yard};

@@ -13,17 +13,13 @@ mod turning;
 
 use crate::held::Held;
 use crate::part::{NodePart, Turned};
-use code_image::Image;
+use code_image::Images;
 use frame_codec::{Back, Ending, Leg};
 use leg_ledger::{Ledger, LegKey};
-use pulse_base::Listed;
 use range_table::Table;
 use run_rules::{Accepted, LiveLeg, ProgramSizes};
 use std::collections::VecDeque;
 use std::marker::Model;
-
-/// The images of programs, in the order of the programs' numbers.
-pub type Images = Listed<Image>;
 
 /// A node that runs each leg to the end of its iteration. Its live legs are a queue that takes no memory after `make`,
 /// and its kept replies a hash map: `accept` and `turn` cost the same however many replies are kept. A turn touches its

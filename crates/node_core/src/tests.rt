@@ -4,8 +4,8 @@ ghost use Rattle.std.specs.Prelude.{◌≡◌, ◌≢◌, ◌≤◌, ◌+◌, �
 ghost use Rattle.pulse_isa.specs.Spelling.{HasSpelling};
 ghost use Rattle.node_core.specs.Part.{IsRegions};
 
-use crate::{Accepted, Images, MemYard, Node, NodePart, NodeRegion, NodeRegions, Turned, Yard};
-use code_image::{Code, Image};
+use crate::{Accepted, MemYard, Node, NodePart, NodeRegion, NodeRegions, Turned, Yard};
+use code_image::{Code, Image, Images};
 use code_verify::{Sizes, verify};
 use frame_codec::{Back, Ending, Leg};
 use leg_ledger::LegKey;

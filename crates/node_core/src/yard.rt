@@ -3,8 +3,9 @@
 ghost use Rattle.std.specs.Prelude.{◌≡◌, ◌≤◌, ◌++◌, ◌∷◌, [], IfOk, OnOk, OnErr, IsTrue, option_map};
 ghost use Rattle.node_core.specs.Part.{IsRegions, new_part};
 
-use crate::node::{Images, Node};
+use crate::node::Node;
 use crate::part::NodePart;
+use code_image::Images;
 use pulse_base::Memory;
 use run_rules::NodeRegions;
 use std::alloc::Global;

@@ -7,14 +7,11 @@ ghost use Rattle.pulse_codegen.specs.Compiled.{Compiles, CompilesAll};
 ghost use Rattle.pulse_codegen.specs.Flat.{Fits, IsImageOfFlat};
 
 use crate::segments::{body_segment, init_segment};
-use code_image::Image;
+use code_image::{Image, Images};
 use iter_check::Checked;
 use iter_unroll::{Flat, span, unroll};
 use pulse_base::{Listed, Memory};
 use std::alloc::Global;
-
-/// The images of a program's iterators, by their numbers.
-pub type Images = Listed<Image>;
 
 /// A checked program and its images. Image `i` means iterator `i`: a run of its body is an iteration, and a run of its
 /// init begins a walk. Its body loads once, and just the bytes that the iterator uses.

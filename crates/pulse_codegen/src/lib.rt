@@ -15,4 +15,4 @@ mod statement;
 mod tests;
 mod value;
 
-pub use built::{Built, Images, build};
+pub use built::{Built, build};

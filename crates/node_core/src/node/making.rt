@@ -5,8 +5,9 @@ ghost use Rattle.run_rules.specs.Node.{spans_of};
 ghost use Rattle.node_core.specs.Part.{IsRegions, new_part};
 ghost use Rattle.node_core.specs.inner.View.{held_view};
 
-use super::{Images, Node};
+use super::Node;
 use crate::held::Held;
+use code_image::Images;
 use leg_ledger::Ledger;
 use pulse_base::Memory;
 use range_table::{Regions, Table};
