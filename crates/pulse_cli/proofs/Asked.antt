@@ -1,6 +1,7 @@
 -- The place of what is found in a list is a place of the list.
 use Rattle.std.proofs.Common.{◌≡◌, ℕ, ◌<◌, Bool, List, length, nat_lt, Option, Some, None, IfSome, sym, ◌∙◌, arith}
-use Rattle.std.specs.Prelude.{position, position_or_len}
+use Rattle.std.specs.Prelude.{position}
+use Rattle.std.specs.List.{position_or_len}
 use Rattle.std.proofs.lemmas.Bool.{ltb-true}
 use Rattle.std.proofs.lemmas.Option.{cond_some}
 

@@ -44,7 +44,7 @@ pub(crate) struct Plan {
 /// Reads a document: its one program, region and request.
 pub(crate) fn read(alloc: Global, text: &[u8]) -> Result<Plan, Failure>
     ensures refused { IfErr result IsOfInput }
-    ensures asked { IfOk result (λ plan. IsAsked plan.built plan.iter plan.args) }
+    ensures asked { IfOk result (λ plan. IsAsked plan.built plan.iter plan.args.items) }
 {
     let table = match toml::table_from_slice(alloc, text) {
         Ok(table) => table,
@@ -138,7 +138,7 @@ fn read_program(alloc: Global, table: &Table) -> Result<Built, Failure>
 // The number of the request's iterator, and its arguments, as many as it has.
 fn read_request(request: &Table, built: &Built) -> Result<(usize, ArrayVec<u64, 8>), Failure>
     ensures refused { IfErr result IsOfInput }
-    ensures asked { IfOk result (λ r. IsAsked built.now r.0 r.1) }
+    ensures asked { IfOk result (λ r. IsAsked built.now r.0 r.1.items) }
 {
     let known = has_only(request, &["iter", "args"]);
     let named = named_iter(request, built);
@@ -166,7 +166,7 @@ fn named_iter(request: &Table, built: &Built) -> Option<usize>
 // Whether these are as many as the iterator has.
 fn has_args(built: &Built, iter: usize, args: &ArrayVec<u64, 8>) -> bool
     requires there { iter < length (built.now.checked).iters }
-    ensures { IsTrue result → IsAsked built.now iter args.now }
+    ensures { IsTrue result → IsAsked built.now iter args.now.items }
 {
     args.len() == usize::from(built.image(iter).args)
 }
