@@ -15,12 +15,18 @@ use Rattle.pulse_cli.specs.WordsRead.{command_met, command_named, pulse_app}
 pub taken : (command : Command) → takes pulse_app (words_of command) ≡ true
 unfolding clap_on_literals
 taken c.Walk = refl
+taken c.Check = refl
 taken c.Format = refl
+taken c.List = refl
+taken c.Verify = refl
 
 pub met : (command : Command) → command_met (subcommand_of pulse_app (words_of command)) ≡ Some command
 unfolding clap_on_literals
 met c.Walk = refl
+met c.Check = refl
 met c.Format = refl
+met c.List = refl
+met c.Verify = refl
 
 -- words that are a command are taken, and are met as that command
 pub taken_by : (words : List (List ℕ)) (some : IsSomeCommand words) → takes pulse_app words ≡ true

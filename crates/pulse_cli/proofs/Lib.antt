@@ -1,4 +1,5 @@
 pub mod Asked
 pub mod Commands
 pub mod Endings
+pub mod ImageRefusals
 pub mod WordLemmas

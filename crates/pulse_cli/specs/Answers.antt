@@ -1,10 +1,16 @@
 -- What each command answers to an input of at most 67,108,864 bytes: its output, or why the input is refused.
-use Rattle.std.specs.Prelude.{◌≡◌, ℕ, ◌≤◌, ◌<◌, List, [], length, slice_get, Result, Ok, Err, Some}
+use Rattle.std.specs.Prelude.{◌≡◌, ◌≢◌, ℕ, ◌≤◌, ◌<◌, List, [], ◌++◌, length, slice_get, codes, decimal, Result, Ok, Err, Some}
 use Rattle.iter_syntax.specs.declared.fault.SyntaxFault.TheVariants as fault
 use Rattle.iter_syntax.specs.declared.tree.Program.{Program}
 use Rattle.iter_syntax.specs.Parsed.{IsProgramOf, ParseAnswer}
 use Rattle.iter_syntax.specs.Printed.{printed}
 use Rattle.iter_check.specs.FaultList.{fault_list}
+use Rattle.code_image.specs.declared.fault.ImageFault.TheVariants as image
+use Rattle.code_image.specs.declared.image.Image.{Image}
+use Rattle.code_image.specs.Spelling.{Spells}
+use Rattle.code_image.specs.Checks.{Refuses}
+use Rattle.code_image.specs.Listing.{listing}
+use Rattle.layout_text.specs.Decls.{layout_text}
 use Rattle.pulse_cli.specs.declared.command.Command.{Command}
 use Rattle.pulse_cli.specs.declared.command.Command.TheVariants as c
 use Rattle.pulse_cli.specs.declared.failure.Refusal.{Refusal}
@@ -27,8 +33,24 @@ RefusesProgram text (r.Check kind place) =
     × ((program : Program) × IsProgramOf text program × (slice_get (fault_list program) 0 ≡ Some (record { kind = kind; place = place })))
 RefusesProgram text _ = ⊥
 
+-- bytes are no image
+abbrev pub RefusesImage : List ℕ → Refusal → Type 0
+RefusesImage bytes (r.Image fault) = (fault ≢ image.Memory) × Refuses bytes fault
+RefusesImage bytes _ = ⊥
+
+-- how many instructions the segments of an image have
+abbrev pub verified_text : Image → List ℕ
+verified_text image =
+    codes "verified init " ++ decimal (length image.init_code) ++ codes " body " ++ decimal (length image.body_code) ++ codes "\n"
+
 -- of a walk nothing is said yet
 abbrev pub Answers : Command → List ℕ → Result (List ℕ) Refusal → Type 0
 Answers c.Walk document answer = Unit {0}
+Answers c.Check text (Ok output) = (program : Program) × HasProgram text program × (output ≡ layout_text program)
+Answers c.Check text (Err refusal) = RefusesProgram text refusal
 Answers c.Format text (Ok output) = (program : Program) × HasProgram text program × (output ≡ printed program)
 Answers c.Format text (Err refusal) = RefusesProgram text refusal
+Answers c.List bytes (Ok output) = (image : Image) × Spells bytes image × (output ≡ listing image)
+Answers c.List bytes (Err refusal) = RefusesImage bytes refusal
+Answers c.Verify bytes (Ok output) = (image : Image) × Spells bytes image × (output ≡ verified_text image)
+Answers c.Verify bytes (Err refusal) = RefusesImage bytes refusal

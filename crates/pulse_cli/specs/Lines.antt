@@ -1,5 +1,6 @@
 -- The status of each failure, and the line that is said of it.
 use Rattle.std.specs.Prelude.{ℕ, List, [], ◌∷◌, ◌++◌, codes, decimal}
+use Rattle.code_image.specs.Lines.{fault_text}
 use Rattle.iter_check.specs.Words.{kind_word}
 use Rattle.pulse_base.specs.declared.status.Status.{Status}
 use Rattle.pulse_base.specs.declared.status.Status.TheVariants as s
@@ -23,6 +24,7 @@ refusal_text (r.Lex place) = codes "program lex " ++ decimal place
 refusal_text (r.Deep place) = codes "program deep " ++ decimal place
 refusal_text (r.Syntax place) = codes "program syntax " ++ decimal place
 refusal_text (r.Check kind place) = codes "program " ++ kind_word kind ++ codes " " ++ decimal place
+refusal_text (r.Image fault) = fault_text fault
 
 abbrev pub failure_text : Failure → List ℕ
 failure_text f.Usage = codes "usage"

@@ -1,7 +1,7 @@
 -- What the steps of a command's run answer, one by one. Only the contracts of these steps use this.
 use Rattle.std.specs.Prelude.{◌≡◌, ◌⊎◌, ℕ, ◌<◌, List, [], length, Option, Some, None, Result, Ok, Err}
 use Rattle.pulse_base.specs.Outside.{Rose}
-use Rattle.pulse_cli.specs.Answers.{Answers, RefusesProgram}
+use Rattle.pulse_cli.specs.Answers.{Answers, RefusesProgram, RefusesImage}
 use Rattle.pulse_cli.specs.Ending.{End, Says}
 use Rattle.pulse_base.specs.declared.status.Status.{Status}
 use Rattle.pulse_cli.specs.declared.command.Command.{Command}
@@ -39,6 +39,12 @@ abbrev pub IsOfProgram : List ℕ → Failure → Type 0
 IsOfProgram text f.Memory = Unit {0}
 IsOfProgram text (f.Refused refusal) = RefusesProgram text refusal
 IsOfProgram text _ = ⊥
+
+-- a failure that reading the bytes of an image has
+abbrev pub IsOfImage : List ℕ → Failure → Type 0
+IsOfImage bytes f.Memory = Unit {0}
+IsOfImage bytes (f.Refused refusal) = RefusesImage bytes refusal
+IsOfImage bytes _ = ⊥
 
 abbrev pub Answered : Command → List ℕ → Result (List ℕ) Failure → Type 0
 Answered command text (Ok output) = Answers command text (Ok output)

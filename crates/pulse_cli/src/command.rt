@@ -16,8 +16,14 @@ use std::alloc::{AllocError, Global};
 pub(crate) enum Command {
     /// Walks the region of a document.
     Walk,
+    /// Lays out the records and iterators of a program.
+    Check,
     /// Prints a program.
     Format,
+    /// Lists an image.
+    List,
+    /// Verifies an image.
+    Verify,
 }
 
 /// The command of the words, which stand without the program's own name. What `clap` takes besides, such as a word
@@ -49,7 +55,10 @@ impl Command {
     {
         match self {
             Command::Walk => is_only(words, "walk"),
+            Command::Check => is_only(words, "check"),
             Command::Format => is_only(words, "format"),
+            Command::List => is_only(words, "list"),
+            Command::Verify => is_only(words, "verify"),
         }
     }
 }
@@ -102,7 +111,10 @@ fn command_line<'a>(alloc: Global) -> Result<clap::Command<'a>, AllocError>
 {
     let empty = clap::Command::new(alloc, "pulse").no_binary_name(true);
     let walk = empty.subcommand(clap::Command::new(alloc, "walk"))?;
-    walk.subcommand(clap::Command::new(alloc, "format"))
+    let check = walk.subcommand(clap::Command::new(alloc, "check"))?;
+    let format = check.subcommand(clap::Command::new(alloc, "format"))?;
+    let list = format.subcommand(clap::Command::new(alloc, "list"))?;
+    list.subcommand(clap::Command::new(alloc, "verify"))
 }
 
 // The command that `clap` met.
@@ -120,7 +132,10 @@ fn command_named(word: &str) -> Option<Command>
 {
     match word {
         "walk" => Some(Command::Walk),
+        "check" => Some(Command::Check),
         "format" => Some(Command::Format),
+        "list" => Some(Command::List),
+        "verify" => Some(Command::Verify),
         _ => None,
     }
 }

@@ -7,6 +7,7 @@ ghost use Rattle.pulse_cli.specs.Lines.{line_of, refusal_text};
 ghost use Rattle.pulse_cli.specs.Steps.{Fails};
 ghost use Rattle.pulse_cli.specs.Ending.{seen, SaysLine};
 
+use code_image::ImageFault;
 use iter_check::CheckKind;
 use pulse_base::{Memory, Sink, Status, write_all};
 use std::alloc::{AllocError, Global};
@@ -29,6 +30,8 @@ pub(crate) enum Refusal {
     Syntax(u32),
     /// The first fault of a program's list.
     Check { kind: CheckKind, place: u32 },
+    /// Why bytes are no image.
+    Image(ImageFault),
 }
 
 impl fmt::Display for Refusal {
@@ -43,6 +46,7 @@ impl fmt::Display for Refusal {
             Refusal::Deep(at) => write!(f, "program deep {at}"),
             Refusal::Syntax(at) => write!(f, "program syntax {at}"),
             Refusal::Check { kind, place } => write!(f, "program {kind} {place}"),
+            Refusal::Image(fault) => write!(f, "{fault}"),
         }
     }
 }

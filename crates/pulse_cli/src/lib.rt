@@ -1,14 +1,17 @@
 //! The commands of `pulse`, over any source, sinks, link and spawner.
 //!
 //! Read [`pulse`] first: it takes the words of a command and the ends of the outside, and answers a
-//! status. Today there is one command, `walk`: it reads a document, compiles its iterator, walks its
-//! region and writes a report. `docs/run.md` has the rules, `docs/formats.md` the texts.
+//! status. Today the commands are `walk`, `check`, `format`, `list` and `verify`. `specs/Words.antt` says
+//! which words they are, `Answers.antt` what each answers to its input, `Lines.antt` and `Ending.antt` how a
+//! run ends; `Steps.antt` and `WordsRead.antt` are for private contracts and proofs alone. `docs/run.md` has
+//! the rules, `docs/formats.md` the texts.
 #![tactic(auto)]
 
 mod absent;
 mod command;
 mod document;
 mod failure;
+mod images;
 mod keys;
 mod program;
 mod report;

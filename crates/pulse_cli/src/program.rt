@@ -9,6 +9,7 @@ use crate::command::Command;
 use crate::failure::{Failure, Refusal};
 use iter_check::{CheckError, Checked, check};
 use iter_syntax::{Program, SyntaxFault, parse, print};
+use layout_text::layout;
 use pulse_base::Bytes;
 use std::alloc::Global;
 
@@ -24,6 +25,20 @@ pub(crate) fn format(alloc: Global, text: &[u8]) -> Result<Bytes, Failure>
     };
     match print(alloc, checked.program()) {
         Ok(printed) => Ok(printed),
+        Err(_) => Err(Failure::Memory),
+    }
+}
+
+/// The lines of the records and iterators of the program of a text.
+pub(crate) fn lay_out(alloc: Global, text: &[u8]) -> Result<Bytes, Failure>
+    ensures { Answered Command.Check text.now result }
+{
+    let checked = match checked_program(alloc, text) {
+        Ok(checked) => checked,
+        Err(failure) => return Err(failure),
+    };
+    match layout(alloc, &checked) {
+        Ok(lines) => Ok(lines),
         Err(_) => Err(Failure::Memory),
     }
 }

@@ -1,5 +1,7 @@
 // Walks over the top call, and every way in which it fails.
 
+mod answers;
+
 ghost use Rattle.std.specs.Prelude.{◌≤◌};
 
 use crate::{AbsentKids, AbsentNet, pulse};
@@ -326,25 +328,4 @@ fn refuses<R: std::process::Abort + AllocGlobal>(
 fn replaced(alloc: Global, text: &str, old: &str, new: &str) -> Result<String, Fail> {
     let (front, back) = text.split_once(old).ok_or("the document has no such text")?;
     Ok(format!(in alloc; "{front}{new}{back}")?)
-}
-
-// The words and the input of a command, its status, and what out and err took.
-#[test]
-#[rattlefmt::skip]
-fn answers_programs(rt: HostRuntime) -> Result<(), Fail> {
-    let cases: [(&'static str, &'static [u8], Status, &'static [u8], &'static [u8]); 6] = [
-        ("format", b"record r{x:u8;}", Status::Ok, b"record r {\nx : u8 ;\n}\n", b""),
-        ("format", b"", Status::Ok, b"", b""),
-        ("format", b"record r { }", Status::Refused, b"", b"pulse: program record 7\n"),
-        ("format", b"record r { a: u8; } $", Status::Refused, b"", b"pulse: program lex 20\n"),
-        ("format", b"record r { a: u8;", Status::Refused, b"", b"pulse: program syntax 17\n"),
-        ("format", b"((((((((((((((((((((((((((((((((()", Status::Refused, b"", b"pulse: program deep 32\n"),
-    ];
-    for (word, input, status, out, err) in cases {
-        let ran = run(rt.alloc(), &[word], input, 1000, NONE)?;
-        assert_eq!(rt; ran.out.taken(), out, "{word}");
-        assert_eq!(rt; ran.err.taken(), err, "{word}");
-        assert_eq!(rt; ran.status, status, "{word}");
-    }
-    Ok(())
 }

@@ -9,7 +9,8 @@ ghost use Rattle.pulse_cli.specs.Words.{IsSomeCommand};
 use crate::command::{Command, read_words};
 use crate::document::read;
 use crate::failure::{Failure, Refusal, fail};
-use crate::program::format;
+use crate::images::{list, verify};
+use crate::program::{format, lay_out};
 use crate::report::report;
 use crate::walk::walk;
 use pulse_base::{Bytes, Link, ReadAll, Sink, Source, Spawner, Status, read_all, write_all};
@@ -85,7 +86,10 @@ fn answer(alloc: Global, command: &Command, text: &[u8]) -> Result<Bytes, Failur
 {
     match command {
         Command::Walk => walk_document(alloc, text),
+        Command::Check => lay_out(alloc, text),
         Command::Format => format(alloc, text),
+        Command::List => list(alloc, text),
+        Command::Verify => verify(alloc, text),
     }
 }
 

@@ -10,4 +10,7 @@ returns c =
     let empty_is : app_of c.no_binary_name-empty.result ≡ without_program (new_app (codes "pulse")) =
     ap app_of_fields c.no_binary_name-empty.ensures ∙ ap without_program c.new.ensures.app in
     let walk_is = c.in_ok-walk.ensures.shape c.new-2.ensures.local ∙ ap₂ with_subcommand empty_is (ap (λ (a : App). a.top) c.new-2.ensures.app) in
-    IfOk-weaker c.subcommand-2.result _ _ (λ line h. h.shape c.new-3.ensures.local ∙ ap₂ with_subcommand walk_is (ap (λ (a : App). a.top) c.new-3.ensures.app)) c.subcommand-2.ensures
+    let check_is = c.in_ok-check.ensures.shape c.new-3.ensures.local ∙ ap₂ with_subcommand walk_is (ap (λ (a : App). a.top) c.new-3.ensures.app) in
+    let format_is = c.in_ok-format.ensures.shape c.new-4.ensures.local ∙ ap₂ with_subcommand check_is (ap (λ (a : App). a.top) c.new-4.ensures.app) in
+    let list_is = c.in_ok-list.ensures.shape c.new-5.ensures.local ∙ ap₂ with_subcommand format_is (ap (λ (a : App). a.top) c.new-5.ensures.app) in
+    IfOk-weaker c.subcommand-5.result _ _ (λ line h. h.shape c.new-6.ensures.local ∙ ap₂ with_subcommand list_is (ap (λ (a : App). a.top) c.new-6.ensures.app)) c.subcommand-5.ensures
