@@ -1,0 +1,4 @@
+pub mod Requests
+pub mod Begins
+pub mod Calls
+pub mod inner
