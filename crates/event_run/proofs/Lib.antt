@@ -1,0 +1,5 @@
+pub mod Lists
+pub mod Happens
+pub mod Keeps
+pub mod Runs
+pub mod Start
