@@ -1,5 +1,5 @@
 -- What a rule does to one request, among the entries of a client's map.
-use Rattle.std.proofs.Common.{◌≡◌, ℕ, zero, suc, ◌<◌, ◌≤◌, List, length, Option, Some, None, IsSome, IfSome, slice_get, slice_set, refl, sym, ap, subst, ◌∙◌}
+use Rattle.std.proofs.Common.{◌≡◌, ℕ, ◌<◌, ◌≤◌, List, length, Option, Some, IfSome, slice_get, slice_set, sym, ap, subst, ◌∙◌}
 use Rattle.std.specs.List.{AllByRecursion}
 use Rattle.std.specs.Map.{values_of}
 use Rattle.std.proofs.lemmas.Option.{slice_get_within}
@@ -11,10 +11,9 @@ use Rattle.run_rules.specs.declared.client.Asking.{Asking}
 use Rattle.run_rules.specs.declared.client.Asking.TheVariants.{NotAsked, Waiting, Answered}
 use Rattle.run_rules.specs.declared.client.Heard.{Heard}
 use Rattle.run_rules.specs.Client as rule
-use Rattle.pulse_base.specs.declared.plan.RequestPlan.{RequestPlan}
 use Rattle.client_core.specs.declared.request.Request.{Request}
 use Rattle.client_core.specs.Begins.{begin, begin_by, begin_of}
-use Rattle.client_core.specs.Requests.{ClientState, Has, find, put, IsPlan}
+use Rattle.client_core.specs.Requests.{ClientState, Has, find}
 use Rattle.client_core.specs.Calls.{Does, Hears, LegFits}
 use Rattle.client_core.specs.inner.Standing.{TermsFit, AskingFits, EntryFits, Goes}
 use Rattle.client_core.specs.inner.View.{StandsAt}

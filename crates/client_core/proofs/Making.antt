@@ -1,5 +1,5 @@
 -- A new client: an entry for each plan.
-use Rattle.std.proofs.Common.{◌≡◌, ℕ, zero, suc, ◌<◌, Bool, true, false, cond, nat_eq, List, [], ◌∷◌, ◌++◌, length, map, Option, Some, None, All, refl, sym, ap, subst, ◌∙◌, arith}
+use Rattle.std.proofs.Common.{◌≡◌, ℕ, suc, false, cond, nat_eq, List, [], ◌∷◌, ◌++◌, map, Some, None, All, refl, ap, ◌∙◌, arith}
 use Rattle.std.specs.List.{AllByRecursion, IsDistinct}
 use Rattle.std.specs.Map.{values_of, lookup}
 use Rattle.code_image.specs.declared.image.Image.{Image}

@@ -1,11 +1,11 @@
 -- What holds of each request of a client, for the proofs alone.
-use Rattle.std.specs.Prelude.{◌≡◌, ℕ, ◌<◌, ◌≤◌, List, [], ◌∷◌, Option, Some, slice_get}
+use Rattle.std.specs.Prelude.{◌≡◌, ℕ, ◌<◌, ◌≤◌, List}
 use Rattle.code_image.specs.declared.image.Image.{Image}
 use Rattle.run_rules.specs.declared.client.Terms.{Terms}
 use Rattle.run_rules.specs.declared.client.Asking.{Asking}
 use Rattle.run_rules.specs.declared.client.Asking.TheVariants.{NotAsked, Waiting, Answered}
 use Rattle.client_core.specs.declared.request.Request.{Request}
-use Rattle.client_core.specs.Requests.{find, put, IsPlan}
+use Rattle.client_core.specs.Requests.{IsPlan}
 
 pub record TermsFit (t : Terms) : Type 0 where
   pub budget : 1 ≤ t.budget

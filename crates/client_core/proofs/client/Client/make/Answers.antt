@@ -5,10 +5,9 @@ use Rattle.std.specs.Vec.Iter.{into_iter_items}
 use Rattle.std.proofs.lemmas.Iterator.Consumers.{YieldsList-end}
 use Rattle.std.proofs.lemmas.Iterator.Adapters.{YieldsList-from_vec}
 use Rattle.indexmap.proofs.CallerLemmas.{insert_entry-new}
-use Rattle.pulse_base.specs.declared.plan.RequestPlan.{RequestPlan}
 use Rattle.run_rules.specs.declared.client.Terms.{Terms}
 use Rattle.client_core.specs.declared.request.Request.{Request}
-use Rattle.client_core.specs.Requests.{ClientState, numbers}
+use Rattle.client_core.specs.Requests.{numbers}
 use Rattle.client_core.specs.inner.Standing.{EntryFits}
 use Rattle.client_core.specs.inner.View.{new_entry}
 use Rattle.client_core.proofs.Making.{entries_fit, new_values, new_number, entries_push, shift}
