@@ -1,0 +1,10 @@
+pub mod Clients
+pub mod Switches
+pub mod Shares
+pub mod Slots
+pub mod Accepted
+pub mod Turned
+pub mod Orderly
+pub mod Keeps
+pub mod Sent
+pub mod Shaped
