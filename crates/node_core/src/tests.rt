@@ -164,6 +164,21 @@ fn leg_at(cur: u64, left: u16) -> Leg
     }
 }
 
+// A leg with one iteration left.
+fn leg_of(client: u16, request: u32, leg: u32, program: u16, cur: u64) -> Leg
+    ensures { result.left ≡ 1 }
+{
+    Leg {
+        client,
+        request,
+        leg,
+        program,
+        left: 1,
+        cur,
+        pad: PadBytes::of(&[0; 8]),
+    }
+}
+
 fn back_of(leg: &Leg, ending: Ending) -> Back {
     Back {
         client: leg.client,
@@ -179,6 +194,35 @@ fn back_of(leg: &Leg, ending: Ending) -> Back {
 
 fn counted(hits: u8) -> PadBytes {
     PadBytes::of(&[hits, 0, 0, 0, 0, 0, 0, 0])
+}
+
+// The back of a leg that came to `cur` with so many iterations left and so many counted in its pad.
+fn back_at(leg: &Leg, ending: Ending, left: u16, cur: u64, hits: u8) -> Back {
+    Back {
+        left,
+        cur,
+        pad: counted(hits),
+        ..back_of(leg, ending)
+    }
+}
+
+// The back of a leg that made its one iteration on the first record of the list.
+fn resumed(leg: &Leg) -> Back {
+    back_at(leg, Ending::Resume, 0, 4120, 1)
+}
+
+// The back of a leg that may not store to its record.
+fn unwritten(leg: &Leg) -> Back {
+    back_of(leg, Ending::Fault(FaultKind::NotWritable))
+}
+
+// A reroute to where the record at 8192 links to.
+fn away(leg: &Leg) -> Back {
+    Back {
+        left: 1,
+        cur: 2_621_440,
+        ..back_of(leg, Ending::Reroute)
+    }
 }
 
 macro_rules! answers {
@@ -200,31 +244,29 @@ fn answers_a_leg_by_its_first_rule(rt: HostRuntime) -> Result<(), Fail> {
     let leg = leg_at(4096, 1);
     answers!(rt, node, leg, Accepted::Started);
     answers!(rt, node, leg, Accepted::Running);
-    answers!(rt, node, Leg { client: 1, ..leg }, Accepted::Full);
-    answers!(rt, node, Leg { request: 1, ..leg }, Accepted::Full);
-    answers!(rt, node, Leg { leg: 1, ..leg }, Accepted::Full);
-    answers!(rt, node, Leg { program: 0, ..leg }, Accepted::Foreign);
-    answers!(rt, node, Leg { program: 2, ..leg }, Accepted::Foreign);
-    let other = Leg { request: 1, ..leg };
-    answers!(rt, node, Leg { cur: 5000, ..other }, Accepted::Elsewhere);
-    answers!(rt, node, Leg { cur: 4095, ..other }, Accepted::Elsewhere);
-    answers!(rt, node, Leg { cur: 4168, ..other }, Accepted::Full);
-    answers!(rt, node, Leg { cur: 4169, ..other }, Accepted::Elsewhere);
-    let barred = Leg { cur: 8192, ..other };
-    let back = back_of(&barred, Ending::Fault(FaultKind::NotReadable));
-    answers!(rt, node, barred, Accepted::Answer(back));
-    let ended = Back {
-        left: 0,
-        cur: 4120,
-        pad: counted(1),
-        ..back_of(&leg, Ending::Resume)
-    };
-    turns!(rt, node, leg, Some(ended));
-    answers!(rt, node, leg, Accepted::Answer(ended));
-    answers!(rt, node, Leg { cur: 5000, ..leg }, Accepted::Answer(ended));
+    answers!(rt, node, leg_of(1, 0, 0, 1, 4096), Accepted::Full);
+    answers!(rt, node, leg_of(0, 1, 0, 1, 4096), Accepted::Full);
+    answers!(rt, node, leg_of(0, 0, 1, 1, 4096), Accepted::Full);
+    answers!(rt, node, leg_of(0, 0, 0, 0, 4096), Accepted::Foreign);
+    answers!(rt, node, leg_of(0, 0, 0, 2, 4096), Accepted::Foreign);
+    answers!(rt, node, leg_of(0, 1, 0, 1, 5000), Accepted::Elsewhere);
+    answers!(rt, node, leg_of(0, 1, 0, 1, 4095), Accepted::Elsewhere);
+    answers!(rt, node, leg_of(0, 1, 0, 1, 4168), Accepted::Full);
+    answers!(rt, node, leg_of(0, 1, 0, 1, 4169), Accepted::Elsewhere);
+    let barred = leg_of(0, 1, 0, 1, 8192);
+    let fault = Ending::Fault(FaultKind::NotReadable);
+    answers!(rt, node, barred, Accepted::Answer(back_of(&barred, fault)));
+    turns!(rt, node, leg, Some(resumed(&leg)));
+    answers!(rt, node, leg, Accepted::Answer(resumed(&leg)));
+    answers!(
+        rt,
+        node,
+        leg_of(0, 0, 0, 1, 5000),
+        Accepted::Answer(resumed(&leg))
+    );
     assert_eq!(rt; node.turn(), Turned::Idle);
-    answers!(rt, node, other, Accepted::Started);
-    answers!(rt, node, leg, Accepted::Answer(ended));
+    answers!(rt, node, leg_of(0, 1, 0, 1, 4096), Accepted::Started);
+    answers!(rt, node, leg, Accepted::Answer(resumed(&leg)));
     Ok(())
 }
 
@@ -241,21 +283,19 @@ fn shares_its_turns(rt: HostRuntime) -> Result<(), Fail> {
     turns!(rt, node, first, None);
     turns!(rt, node, second, None);
     turns!(rt, node, first, None);
-    let done = Back {
-        left: 0,
-        cur: 0,
-        pad: counted(2),
-        ..back_of(&second, Ending::Done)
-    };
-    turns!(rt, node, second, Some(done));
+    turns!(
+        rt,
+        node,
+        second,
+        Some(back_at(&second, Ending::Done, 0, 0, 2))
+    );
     turns!(rt, node, first, None);
-    let ended = Back {
-        left: 1,
-        cur: 0,
-        pad: counted(4),
-        ..back_of(&first, Ending::Done)
-    };
-    turns!(rt, node, first, Some(ended));
+    turns!(
+        rt,
+        node,
+        first,
+        Some(back_at(&first, Ending::Done, 1, 0, 4))
+    );
     assert!(rt; node.is_idle());
     assert!(rt; node.has_region(5) && !node.has_region(4));
     Ok(())
@@ -266,9 +306,8 @@ fn ends_a_leg_where_it_can_not_go_on(rt: HostRuntime) -> Result<(), Fail> {
     let mut node = node_of(rt.alloc(), true, 2)?;
     let leg = leg_at(8192, 2);
     answers!(rt, node, leg, Accepted::Started);
-    let fault = back_of(&leg, Ending::Fault(FaultKind::NotWritable));
-    turns!(rt, node, leg, Some(fault));
-    answers!(rt, node, leg, Accepted::Answer(fault));
+    turns!(rt, node, leg, Some(unwritten(&leg)));
+    answers!(rt, node, leg, Accepted::Answer(unwritten(&leg)));
     let along = Leg {
         request: 1,
         program: 0,
@@ -277,13 +316,8 @@ fn ends_a_leg_where_it_can_not_go_on(rt: HostRuntime) -> Result<(), Fail> {
     };
     answers!(rt, node, along, Accepted::Started);
     turns!(rt, node, along, None);
-    let away = Back {
-        left: 1,
-        cur: 2_621_440,
-        ..back_of(&along, Ending::Reroute)
-    };
-    turns!(rt, node, along, Some(away));
-    answers!(rt, node, along, Accepted::Answer(away));
+    turns!(rt, node, along, Some(away(&along)));
+    answers!(rt, node, along, Accepted::Answer(away(&along)));
     Ok(())
 }
 
@@ -294,17 +328,16 @@ fn gives_a_node_back(rt: HostRuntime) -> Result<(), Fail> {
     let mut node = node_of(alloc, true, 1)?;
     let leg = leg_at(4168, 1);
     answers!(rt, node, leg, Accepted::Started);
-    let done = Back {
-        left: 0,
-        cur: 0,
-        pad: counted(1),
-        ..back_of(&leg, Ending::Done)
-    };
-    turns!(rt, node, leg, Some(done));
+    turns!(rt, node, leg, Some(back_at(&leg, Ending::Done, 0, 0, 1)));
     yard.give_back(node)?;
     for mut part in yard.parts() {
         assert!(rt; part.is_idle());
-        answers!(rt, part, leg, Accepted::Answer(done));
+        answers!(
+            rt,
+            part,
+            leg,
+            Accepted::Answer(back_at(&leg, Ending::Done, 0, 0, 1))
+        );
     }
     Ok(())
 }
