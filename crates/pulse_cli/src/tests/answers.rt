@@ -153,9 +153,12 @@ fn answers_images(rt: HostRuntime) -> Result<(), Fail> {
             ends(&rt, &ran, "", "pulse: image short\n")?;
         }
         for (at, bytes, err) in CHANGED {
-            let mut image = *IMAGE;
-            image[at..at + bytes.len()].copy_from_slice(bytes);
-            let ran = run(rt.alloc(), &[command], &image, 1000, NONE)?;
+            let whole: &[u8] = IMAGE;
+            let rest = at + bytes.len();
+            let mut image = Bytes::from_slice(rt.alloc(), &whole[..at])?;
+            image.append(bytes)?;
+            image.append(&whole[rest..])?;
+            let ran = run(rt.alloc(), &[command], image.as_slice(), 1000, NONE)?;
             ends(&rt, &ran, "", err)?;
         }
     }
