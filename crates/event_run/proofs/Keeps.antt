@@ -181,8 +181,8 @@ delivery_of u v (Some m) set h f = let x = f m refl in delivered_of u v m.to m.c
 
 -- ---- a turn
 
-pub turn_of : (u : Setting) (v : WorldState) (i : ℕ) (s : NodeState) (e : LiveLeg) → IsSetting u → IsWorldOf u v → slice_get v.nodes i ≡ Some s → find_live s.live (key_of e.leg) ≡ Some e → e.leg.cur < 2 ^ 64 → IsWorldOf u (turns u v i s e).0
-turn_of u v i s e set h at found low =
+pub turn_of : (u : Setting) (v : WorldState) (i : ℕ) (s : NodeState) (e : LiveLeg) → IsSetting u → IsWorldOf u v → slice_get v.nodes i ≡ Some s → find_live s.live (key_of e.leg) ≡ Some e → IsWorldOf u (turns u v i s e).0
+turn_of u v i s e set h at found =
     let x = turn s (key_of e.leg) (outcome_of u s e.leg) in
-    let k = turn_keeps u i s (key_of e.leg) e set (h.nodes i s at) found low in
+    let k = turn_keeps u i s (key_of e.leg) e set (h.nodes i s at) found in
     node_of u v i x.0 (sent_back x.1) (v.order ++ e.leg.request ∷ []) h (low_get v.nodes i s at) k.0 (backs_of u (length v.nodes) x.1 k.1)

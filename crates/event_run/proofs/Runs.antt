@@ -1,5 +1,5 @@
 -- Runs keep what is always true, and so their order, memory and answers are those of a flat run.
-use Rattle.std.proofs.Common.{◌≡◌, ℕ, ◌^◌, ◌<◌, inr, List, [], ◌∷◌, length, map, Option, Some, None, refl, ap, ◌∙◌, subst}
+use Rattle.std.proofs.Common.{◌≡◌, ℕ, ◌<◌, inr, List, [], ◌∷◌, length, map, Option, Some, None, refl, ap, ◌∙◌}
 use Rattle.std.specs.Prelude.{slice_get}
 use Rattle.pulse_base.specs.declared.event.Event.{Event}
 use Rattle.pulse_base.specs.declared.event.Event.TheVariants as event
@@ -8,26 +8,22 @@ use Rattle.run_rules.specs.Node.{NodeState, key_of, find_live}
 use Rattle.run_rules.proofs.Finds.{find_first}
 use Rattle.run_laws.specs.Plan as p
 use Rattle.run_laws.specs.Flat as f
-use Rattle.run_laws.specs.Node as n
 use Rattle.run_laws.specs.World as w
 use Rattle.run_laws.specs.Spines.Sound.{number_in}
-use Rattle.run_laws.specs.Spines.Carries.{FrameShaped, SlotShaped}
+use Rattle.run_laws.specs.Spines.Carries.{FrameShaped}
 use Rattle.run_laws.proofs.Events.{each_event_keeps, each_get}
 use Rattle.run_laws.proofs.First.{is_explained}
 use Rattle.run_laws.proofs.Sentences.{says_all}
 use Rattle.run_laws.proofs.Shapes.{each_event_keeps_shape}
 use Rattle.run_laws.proofs.KeptSent.{each_event_keeps_sent}
 use Rattle.run_laws.proofs.AnswersStay.{answers_stay}
-use Rattle.run_views.specs.Frames.{leg_view}
 use Rattle.run_views.specs.Setting.{Setting, plan_of, IsSetting}
-use Rattle.run_views.specs.Nodes.{slot_by}
 use Rattle.run_views.specs.Keeps.{shape_of}
 use Rattle.run_views.proofs.Shaped.{plan_keeps_shape}
-use Rattle.run_views.proofs.Slots.{each_find, view_slot}
 use Rattle.event_run.specs.Letters.{Content, OfLeg, OfBack, Letter}
 use Rattle.event_run.specs.World.{WorldState, delivers_at, turns, turns_first, turns_at, asks_at, ticks_at}
 use Rattle.event_run.specs.World as world
-use Rattle.event_run.specs.Always.{content_view, letter_view, node_at, world_view, event_view, LetterOf, IsWorldOf, HasNumbers, IsRun, IsEventOf}
+use Rattle.event_run.specs.Always.{content_view, letter_view, world_view, event_view, LetterOf, IsWorldOf, HasNumbers, IsRun, IsEventOf}
 use Rattle.event_run.specs.Laws.{RunIsExplained, EventKeepsRun, AnyTurnKeepsRun, AnswersStayInRun}
 use Rattle.event_run.proofs.Lists.{get_map}
 use Rattle.event_run.proofs.Happens.{ask_happens, tick_happens, delivery_happens, turn_made, turn_happens}
@@ -54,16 +50,6 @@ left_of : (u : Setting) (x : Content) → FrameShaped (plan_of u) (shape_of u) (
 left_of u (OfLeg l) h = h.1
 left_of u (OfBack b) h = tt
 
--- a live leg's pointer is below 2^64
-live_low : (u : Setting) (start : f.Flat) (v : WorldState) (i : ℕ) (s : NodeState) (e : LiveLeg) → IsRun u start v → slice_get v.nodes i ≡ Some s → find_live s.live (key_of e.leg) ≡ Some e → e.leg.cur < 2 ^ 64
-live_low u start v i s e run at found =
-    let node = run.of.nodes i s at in
-    let live = each_find _ s.live (key_of e.leg) e found node.live in
-    let open' = each_find _ s.live (key_of e.leg) e found node.orderly.live in
-    let slot : (node_at u (slice_get v.nodes i)).slot e.leg.request e.leg.leg ≡ n.Running (leg_view e.leg).now =
-    ap (λ o. (node_at u o).slot e.leg.request e.leg.leg) at ∙ view_slot u s e.leg (n.Running (leg_view e.leg).now) live.leg.client (λ j. slot_by (open'.1 j) (found j)) in
-    (subst (SlotShaped (plan_of u) (shape_of u) e.leg.request) slot (run.shaped.slots i e.leg.request e.leg.leg)).0.cur
-
 -- ---- an event
 
 made : (u : Setting) (start : f.Flat) (v x : WorldState) (e : w.Event) → IsSetting u → IsRun u start v → IsWorldOf u x → w.Happens (plan_of u) u.tries (world_view u v) (world_view u x) e → IsRun u start x
@@ -80,29 +66,27 @@ happens u start v (event.Tick r) set few h run = tick_happens u v r (slice_get v
 happens u start v (event.Deliver k) set few h run = delivery_happens u v k (slice_get v.letters k) set few run.of refl (letter_facts u start v k (slice_get v.letters k) run refl)
 happens u start v (event.Turn i) set few h run = turn_happens u v i (slice_get v.nodes i) set run.of refl
 
-first_of : (u : Setting) (start : f.Flat) (v : WorldState) (i : ℕ) (s : NodeState) (live : List LiveLeg) → IsSetting u → IsRun u start v → slice_get v.nodes i ≡ Some s → s.live ≡ live → IsWorldOf u (turns_first u v i s live).0
-first_of u start v i s [] set run at e = run.of
-first_of u start v i s (x ∷ es) set run at e =
-    let found = ap (λ z. find_live z (key_of x.leg)) e ∙ find_first x es in
-    turn_of u v i s x set run.of at found (live_low u start v i s x run at found)
+first_of : (u : Setting) (v : WorldState) (i : ℕ) (s : NodeState) (live : List LiveLeg) → IsSetting u → IsWorldOf u v → slice_get v.nodes i ≡ Some s → s.live ≡ live → IsWorldOf u (turns_first u v i s live).0
+first_of u v i s [] set h at e = h
+first_of u v i s (x ∷ es) set h at e = turn_of u v i s x set h at (ap (λ z. find_live z (key_of x.leg)) e ∙ find_first x es)
 
-turn_at_of : (u : Setting) (start : f.Flat) (v : WorldState) (i : ℕ) (o : Option NodeState) → IsSetting u → IsRun u start v → slice_get v.nodes i ≡ o → IsWorldOf u (turns_at u v i o).0
-turn_at_of u start v i None set run e = run.of
-turn_at_of u start v i (Some s) set run e = first_of u start v i s s.live set run e refl
+turn_at_of : (u : Setting) (v : WorldState) (i : ℕ) (o : Option NodeState) → IsSetting u → IsWorldOf u v → slice_get v.nodes i ≡ o → IsWorldOf u (turns_at u v i o).0
+turn_at_of u v i None set h e = h
+turn_at_of u v i (Some s) set h e = first_of u v i s s.live set h e refl
 
 event_of : (u : Setting) (start : f.Flat) (v : WorldState) (e : Event) → IsSetting u → IsRun u start v → IsWorldOf u (world.event u v e).0
 event_of u start v (event.Ask r) set run = ask_of u v r (slice_get v.asking r) set run.of refl
 event_of u start v (event.Tick r) set run = tick_of u v r (slice_get v.asking r) set run.of refl
 event_of u start v (event.Deliver k) set run = delivery_of u v (slice_get v.letters k) set run.of
     (λ m e. let x = letter_facts u start v k (slice_get v.letters k) run refl m e in (x.0, left_of u m.content x.2))
-event_of u start v (event.Turn i) set run = turn_at_of u start v i (slice_get v.nodes i) set run refl
+event_of u start v (event.Turn i) set run = turn_at_of u v i (slice_get v.nodes i) set run.of refl
 
 pub event_keeps_run : EventKeepsRun
 event_keeps_run u start v e set few h run = made u start v (world.event u v e).0 (event_view e) set run (event_of u start v e set run) (happens u start v e set few h run)
 
 pub any_turn_keeps_run : AnyTurnKeepsRun
 any_turn_keeps_run u start v i s e set few at found run =
-    made u start v (turns u v i s e).0 (w.TurnOf i) set run (turn_of u v i s e set run.of at found (live_low u start v i s e run at found)) (inr (turn_made u v i s e set run.of at found))
+    made u start v (turns u v i s e).0 (w.TurnOf i) set run (turn_of u v i s e set run.of at found) (inr (turn_made u v i s e set run.of at found))
 
 pub answers_stay_in_run : AnswersStayInRun
 answers_stay_in_run u start v e r a set few h run given = answers_stay (plan_of u) u.tries (world_view u v) (world_view u (world.event u v e).0) (event_view e) r a (happens u start v e set few h run) given

@@ -37,7 +37,7 @@ switch_shaped P S (AsBack b) f = back_shaped P S b b.ending refl f
 begun_shaped : (P : Plan) (S : Shape) (r : ℕ) (g : Begun) → P.first r ≡ g → BegunShaped (S.pad r) g → AskingShaped P S (begun_asking P r g) × AreShaped P S (begun_sends P r g)
 begun_shaped P S r (Begins cur pad) e h =
     let f : FrameShaped P S (AsLeg (first_leg P r)) = subst (λ z. IsShaped P (S.pad r) (first_progress P.budget z) × (1 ≤ (first_progress P.budget z).left)) (sym e)
-    (record { cur = h.0; pad = h.1; left = omega arith }, P.some_budget) in
+    (record { pad = h; left = omega arith }, P.some_budget) in
     (f, (f, tt))
 begun_shaped P S r (Finished pad) e h = (tt, tt)
 begun_shaped P S r Faulted e h = (tt, tt)
@@ -72,7 +72,7 @@ ending_shaped P S b accepted Reroute f = tt
 ending_shaped P S b accepted Resume f = by_cases (nat_eq (suc accepted) P.rounds)
     (λ q. subst (λ t. HeardShaped P S (if t then Answers (Spent (limit P)) else Sends (next_leg P b))) (sym q) tt)
     (λ q. subst (λ t. HeardShaped P S (if t then Answers (Spent (limit P)) else Sends (next_leg P b))) (sym q)
-    (record { cur = f.0.cur; pad = f.0.pad; left = omega arith }, P.some_budget))
+    (record { pad = f.0.pad; left = omega arith }, P.some_budget))
 
 hears_shaped : (P : Plan) (S : Shape) (b : Back) (g : Asking) → FrameShaped P S (AsBack b) → HeardShaped P S (hears P b g)
 unfolding HeardShaped
@@ -122,11 +122,11 @@ goes_shaped P S r a Nowhere f h = (f, h)
 
 turned_shaped : (P : Plan) (S : Shape) (n r region : ℕ) (a : Progress) (o : Outcome) → IsShaped P (S.pad r) a → 1 ≤ a.left → OutcomeShaped (S.pad r) region o → TurnedShaped P S r (turned P n r a o)
 unfolding TurnedShaped
-turned_shaped P S n r region a (Finishes bytes pad) f h o = (record { cur = grind arith; pad = o.1; left = let m = f.left in omega (arith, m) }, tt)
+turned_shaped P S n r region a (Finishes bytes pad) f h o = (record { pad = o.1; left = let m = f.left in omega (arith, m) }, tt)
 turned_shaped P S n r region a (Faults kind) f h o = (f, tt)
 turned_shaped P S n r region a (Goes to bytes pad) f h o =
     let b = came_to to pad (a.left - 1) in
-    let g : IsShaped P (S.pad r) b = record { cur = o.2; pad = o.1; left = let m = f.left in omega (arith, m) } in
+    let g : IsShaped P (S.pad r) b = record { pad = o.1; left = let m = f.left in omega (arith, m) } in
     by_cases (nat_eq (a.left - 1) 0)
     (λ q. subst (λ z. TurnedShaped P S r (goes_on b z (arrive_on P n r to))) (sym q) (g, tt))
     (λ q. subst (λ z. TurnedShaped P S r (goes_on b z (arrive_on P n r to))) (sym q)
@@ -183,7 +183,7 @@ turn_shaped P S w n new r k t keeps s e =
     let now = subst (SlotShaped P S r) e.is_live (s.slots n r k) in
     let here : length ((w.nodes n).bytes e.region) ≡ S.region e.region = subst (λ (m : ℕ). length ((w.nodes m).bytes e.region) ≡ S.region e.region) on.owner (s.memory e.region) in
     let o = P.iterate r e.region ((w.nodes n).bytes e.region) e.now.cur e.now.pad in
-    let shaped : OutcomeShaped (S.pad r) (S.region e.region) o = keeps.iterates r e.region ((w.nodes n).bytes e.region) e.now.cur e.now.pad on.region here now.0.cur now.0.pad in
+    let shaped : OutcomeShaped (S.pad r) (S.region e.region) o = keeps.iterates r e.region ((w.nodes n).bytes e.region) e.now.cur e.now.pad on.region here now.0.pad in
     let left : TurnedShaped P S r t = subst (TurnedShaped P S r) (sym e.left) (turned_shaped P S n r (S.region e.region) e.now o now.0 now.1 shaped) in
     node_shaped P S w n new (turned_sends r k t) (w.order ++ r ∷ []) s
     (subst (λ (v : Node). (q j : ℕ) → SlotShaped P S q (v.slot q j)) (sym e.changes) (λ q j. put_slot P S (w.nodes n).slot r k (turned_slot r k t) q j (s.slots n) (turned_slot_shaped P S r k t left)))

@@ -47,8 +47,7 @@ pub fn law_drain_advances()
     ensures { DrainAdvances }
 {}
 
-/// Letters, slots and clients carry pointers below 2^64, pads of their request's size and at most the budget; regions
-/// keep their lengths.
+/// Letters, slots and clients carry pads of their request's size and at most the budget; regions keep their lengths.
 pub fn law_each_event_keeps_shape()
     ensures { EachEventKeepsShape }
 {}

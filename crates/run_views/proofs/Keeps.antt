@@ -238,7 +238,7 @@ sent_of u (fate.Stays x) h = tt
 sent_of u (fate.Ends b) h = h
 
 pub turn_keeps : TurnKeeps
-turn_keeps u i s q e set h found low =
+turn_keeps u i s q e set h found =
     let x = site u i s q e h found in
     let l = e.leg in
     let place = x.live.place in
@@ -251,7 +251,7 @@ turn_keeps u i s q e set h found low =
     let offset : at ≡ offset_in u r.number l.cur = ap (λ z. l.cur - z.base) x.span in
     let keeps : OutcomeKeeps (record_size u l.request) (pad_size u l.request) o = subst (OutcomeKeeps (record_size u l.request) (pad_size u l.request)) (sym (same_outcome u i s q e x))
     (set.iterates l.request (take (record_size u l.request) (drop (offset_in u r.number l.cur) r.bytes)) l.cur l.pad _
-    (ap (λ z. length (take (record_size u l.request) (drop z r.bytes))) (sym offset) ∙ record_length r.bytes at (record_size u l.request) fits) low x.live.leg.pad) in
+    (ap (λ z. length (take (record_size u l.request) (drop z r.bytes))) (sym offset) ∙ record_length r.bytes at (record_size u l.request) fits) x.live.leg.pad) in
     let after = record_after o (record_in s l place) in
     let g2 = record r { bytes = spliced r.bytes at after } in
     let t = with_record s l place after in

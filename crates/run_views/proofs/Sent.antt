@@ -53,7 +53,7 @@ switch_keeps u = (
 -- ---- a client
 
 begin_of : (u : Setting) (r : ℕ) (b : Begin) → BeginKeeps (pad_size u r) b → IsAskingOf u r (asked_by (terms_of u r) r (u.program r) b).0 × SentLegOf u (asked_leg (asked_by (terms_of u r) r (u.program r) b).1)
-begin_of u r (Ready cur pad) h = ((refl, record { client = refl; program = refl; pad = h.1 }), record { client = refl; program = refl; pad = h.1 })
+begin_of u r (Ready cur pad) h = ((refl, record { client = refl; program = refl; pad = h }), record { client = refl; program = refl; pad = h })
 begin_of u r (Ended pad) h = (tt, tt)
 begin_of u r DivZero h = (tt, tt)
 

@@ -1,5 +1,5 @@
 -- Node, switch and client keep what is always true of them, and what they send is of its request.
-use Rattle.std.specs.Prelude.{◌≡◌, ℕ, ◌^◌, ◌<◌, ◌≤◌, Option, Some, None}
+use Rattle.std.specs.Prelude.{◌≡◌, ℕ, ◌≤◌, Option, Some, None}
 use Rattle.range_table.specs.Memory as table
 use Rattle.frame_codec.specs.declared.frame.Leg.{Leg}
 use Rattle.frame_codec.specs.declared.frame.Back.{Back}
@@ -52,7 +52,7 @@ AcceptKeeps =
 
 abbrev pub TurnKeeps : Type 0
 TurnKeeps =
-    (u : Setting) (i : ℕ) (s : NodeState) (q : LegKey) (e : LiveLeg) → IsSetting u → IsNodeOf u i s → find_live s.live q ≡ Some e → e.leg.cur < 2 ^ 64
+    (u : Setting) (i : ℕ) (s : NodeState) (q : LegKey) (e : LiveLeg) → IsSetting u → IsNodeOf u i s → find_live s.live q ≡ Some e
     → IsNodeOf u i (turn s q (outcome_of u s e.leg)).0 × SentBackOf u (turn s q (outcome_of u s e.leg)).1
 
 abbrev pub SwitchKeeps : Type 0

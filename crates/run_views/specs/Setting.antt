@@ -1,5 +1,5 @@
 -- What stays the same in a run, as the rules have it, and the plan that the laws of runs make of it.
-use Rattle.std.specs.Prelude.{◌≡◌, ℕ, ◌-◌, ◌^◌, ◌<◌, ◌≤◌, Bool, List, length, take, drop, Option, Some, None, slice_get, slice_index_or}
+use Rattle.std.specs.Prelude.{◌≡◌, ℕ, ◌-◌, ◌<◌, ◌≤◌, Bool, List, length, take, drop, Option, Some, None, slice_get, slice_index_or}
 use Rattle.pulse_base.specs.Cause.{kind_of}
 use Rattle.range_table.specs.declared.region.RegionSpan.{RegionSpan}
 use Rattle.range_table.specs.Memory.{region_of, region_at, may_read, may_write}
@@ -79,14 +79,14 @@ plan_of u = record {
 
 -- ---- what is always true of it
 
--- an outcome keeps the lengths of record and pad, and goes to a pointer below 2^64
+-- an outcome keeps the lengths of record and pad
 abbrev pub OutcomeKeeps : (size pad : ℕ) → Outcome → Type 0
 OutcomeKeeps size pad (Done bytes after) = (length bytes ≡ size) × (length after ≡ pad)
-OutcomeKeeps size pad (Goes to bytes after) = (length bytes ≡ size) × (length after ≡ pad) × (to < 2 ^ 64)
+OutcomeKeeps size pad (Goes to bytes after) = (length bytes ≡ size) × (length after ≡ pad)
 OutcomeKeeps size pad (Faults cause) = Unit {0}
 
 abbrev pub BeginKeeps : (pad : ℕ) → Begin → Type 0
-BeginKeeps pad (Ready cur after) = (cur < 2 ^ 64) × (length after ≡ pad)
+BeginKeeps pad (Ready cur after) = length after ≡ pad
 BeginKeeps pad (Ended after) = length after ≡ pad
 BeginKeeps pad DivZero = Unit {0}
 
@@ -97,7 +97,7 @@ pub record IsSetting (u : Setting) : Type 0 where
   pub clients : (r : ℕ) → u.client r < u.clients
   pub sized : (r : ℕ) → 1 ≤ record_size u r
   pub begins : (r : ℕ) → BeginKeeps (pad_size u r) (u.begin r)
-  pub iterates : (r : ℕ) (bytes : List ℕ) (cur : ℕ) (pad : List ℕ) (writable : Bool) → length bytes ≡ record_size u r → cur < 2 ^ 64 → length pad ≡ pad_size u r
+  pub iterates : (r : ℕ) (bytes : List ℕ) (cur : ℕ) (pad : List ℕ) (writable : Bool) → length bytes ≡ record_size u r → length pad ≡ pad_size u r
       → OutcomeKeeps (record_size u r) (pad_size u r) (u.iterate (u.program r) bytes cur pad writable)
 
 -- ---- frames of its requests

@@ -1,6 +1,6 @@
 -- Two things that hold of every run by themselves, whatever is delivered: what letters, slots and clients carry has the shape of its
 -- request; and each back that a node keeps was sent.
-use Rattle.std.specs.Prelude.{◌≡◌, ℕ, ◌^◌, ◌<◌, ◌≤◌, List, length, Some, slice_get}
+use Rattle.std.specs.Prelude.{◌≡◌, ℕ, ◌≤◌, List, length, Some, slice_get}
 use Rattle.run_laws.specs.Plan.{Progress, Ending, Done, Reroute, Resume, Fault, Back, Frame, AsLeg, AsBack, Begun, Begins, Finished, Faulted, Outcome, Finishes, Goes, Faults, Plan}
 use Rattle.run_laws.specs.Flat.{Flat}
 use Rattle.run_laws.specs.Node.{Slot, Fresh, Running, Kept}
@@ -14,26 +14,25 @@ pub record Shape : Type 0 where
   pub pad : ℕ → ℕ
   pub region : ℕ → ℕ
 
--- a pointer below 2^64, a pad of that size, and at most the budget left
+-- a pad of that size, and at most the budget left
 pub record IsShaped (P : Plan) (size : ℕ) (a : Progress) : Type 0 where
-  pub cur : a.cur < 2 ^ 64
   pub pad : length a.pad ≡ size
   pub left : a.left ≤ P.budget
 
 abbrev pub BegunShaped : ℕ → Begun → Type 0
-BegunShaped size (Begins cur pad) = (cur < 2 ^ 64) × (length pad ≡ size)
+BegunShaped size (Begins cur pad) = length pad ≡ size
 BegunShaped size (Finished pad) = Unit {0}
 BegunShaped size Faulted = Unit {0}
 
 abbrev pub OutcomeShaped : (size region : ℕ) → Outcome → Type 0
 OutcomeShaped size region (Finishes bytes pad) = (length bytes ≡ region) × (length pad ≡ size)
-OutcomeShaped size region (Goes to bytes pad) = (length bytes ≡ region) × (length pad ≡ size) × (to < 2 ^ 64)
+OutcomeShaped size region (Goes to bytes pad) = (length bytes ≡ region) × (length pad ≡ size)
 OutcomeShaped size region (Faults kind) = Unit {0}
 
--- the requests begin with such pads and pointers, and iterations keep them and the lengths of regions
+-- the requests begin with such pads, and iterations keep them and the lengths of regions
 pub record KeepsShape (P : Plan) (S : Shape) : Type 0 where
   pub begins : (r : ℕ) → BegunShaped (S.pad r) (P.first r)
-  pub iterates : (r i : ℕ) (bytes : List ℕ) (cur : ℕ) (pad : List ℕ) → P.region r cur ≡ Some i → length bytes ≡ S.region i → cur < 2 ^ 64 → length pad ≡ S.pad r
+  pub iterates : (r i : ℕ) (bytes : List ℕ) (cur : ℕ) (pad : List ℕ) → P.region r cur ≡ Some i → length bytes ≡ S.region i → length pad ≡ S.pad r
       → OutcomeShaped (S.pad r) (S.region i) (P.iterate r i bytes cur pad)
 
 -- a leg has an iteration left, and so has a back that becomes a leg
