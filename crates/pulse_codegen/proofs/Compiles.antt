@@ -109,7 +109,7 @@ image_means p it flat image h m sizes iterates begins uses =
         record_size = m.record_size ∙ sizes.0;
         pad_size = m.pad_size ∙ sizes.1;
         args = m.args ∙ sizes.2;
-        body = λ bytes pad cur writable hs hp hc.
+        body = λ bytes pad cur writable hs hp.
             ap (λ c. run_body c bytes pad cur writable) m.body
             ∙ body_means flat.record_size flat.pad_size m.span.0 m.span.1 e n body bytes pad cur writable (hs ∙ m.record_size) (hp ∙ m.pad_size)
             ∙ end_same m.span.0 m.span.1 (length bytes) (length pad) _

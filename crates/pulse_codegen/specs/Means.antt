@@ -29,7 +29,7 @@ pub record Means (fields : List FieldDecl) (it : Iter) (image : Image) : Type 0 
   pub record_size : image.record_size ≡ size_of fields
   pub pad_size : image.pad_size ≡ size_of it.pad
   pub args : image.args ≡ length it.args
-  pub body : (bytes pad : List ℕ) (cur : ℕ) (writable : Bool) → length bytes ≡ image.record_size → length pad ≡ image.pad_size → cur < 2 ^ 64
+  pub body : (bytes pad : List ℕ) (cur : ℕ) (writable : Bool) → length bytes ≡ image.record_size → length pad ≡ image.pad_size
       → run_body image.body_code bytes pad cur writable ≡ end_of (iteration fields it bytes cur pad writable)
   pub init : (args : List ℕ) → length args ≡ image.args → All (λ v. v < 2 ^ 64) args
       → run_init image.init_code args image.pad_size ≡ start_of args (begin it args)
