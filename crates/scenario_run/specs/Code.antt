@@ -1,5 +1,5 @@
 -- When the code of images does what the walks of a setting ask.
-use Rattle.std.specs.Prelude.{◌≡◌, ◌<◌, ℕ, Bool, List, length, Some, slice_get}
+use Rattle.std.specs.Prelude.{◌≡◌, ℕ, Bool, List, length, Some, slice_get}
 use Rattle.code_verify.specs.Run.{run_body}
 use Rattle.code_image.specs.declared.image.Image.{Image}
 use Rattle.run_rules.specs.Node.{size_in}

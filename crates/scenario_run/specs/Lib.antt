@@ -1,3 +1,4 @@
 pub mod Setting
 pub mod Start
 pub mod Code
+pub mod Laws

@@ -1,5 +1,5 @@
 -- The world of a scenario before its first event: nothing is asked, sent, live or kept.
-use Rattle.std.specs.Prelude.{ℕ, zero, suc, List, [], ◌∷◌, ◌++◌, length, map, replicate, nat_eq, if◌then◌else◌}
+use Rattle.std.specs.Prelude.{ℕ, zero, suc, List, [], ◌∷◌, length, map, replicate, nat_eq, if◌then◌else◌}
 use Rattle.std.specs.FinMap as m
 use Rattle.run_rules.specs.declared.node.NodeRegion.{NodeRegion}
 use Rattle.run_rules.specs.declared.client.Asking.TheVariants.{NotAsked}
