@@ -1,0 +1,6 @@
+pub mod Settling
+pub mod Rounds
+pub mod Kept
+pub mod Advances
+pub mod Requests
+pub mod Drained
