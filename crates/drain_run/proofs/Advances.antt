@@ -30,9 +30,9 @@ use Rattle.event_run.specs.Always.{to_view, content_view, letter_view, node_at, 
 use Rattle.event_run.proofs.Lists.{low_get, get_map, map_append}
 use Rattle.event_run.proofs.Happens.{delivery_happens, turn_happens}
 use Rattle.event_run.proofs.Runs.{event_keeps_run}
-use Rattle.drain_run.specs.Drain.{live_at, IsIdle, after_turns, last_letter, delivers_last, GoesTo, Round, does_wait, current_leg, resends}
+use Rattle.drain_run.specs.Drain.{live_at, IsIdle, after_turns, last_letter, delivers_last, GoesTo, Round, does_wait, IsAnswered, current_leg, resends}
 use Rattle.drain_run.specs.Draining.{AllIdle, rank_of, letter_measure, drain_measure, IsDraining}
-use Rattle.drain_run.specs.Laws.{ResendBeginsDraining, DrainingHasLetter, IsAnswered, RoundAdvances}
+use Rattle.drain_run.specs.Laws.{ResendBeginsDraining, DrainingHasLetter, RoundAdvances}
 use Rattle.drain_run.proofs.Settling.{turned, first_turn}
 use Rattle.drain_run.proofs.Rounds.{round_idle}
 use Rattle.drain_run.proofs.Kept.{turns_keep_run, resend_keeps_run, round_keeps_run}

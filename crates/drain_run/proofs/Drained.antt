@@ -6,9 +6,9 @@ use Rattle.run_rules.specs.declared.client.Asking.{Asking}
 use Rattle.run_rules.specs.declared.client.Asking.TheVariants.{NotAsked, Waiting, Answered}
 use Rattle.run_views.specs.Setting.{Setting}
 use Rattle.event_run.specs.World.{WorldState}
-use Rattle.drain_run.specs.Drain.{live_at, IsIdle, does_wait, waits, resends, Rounds, DrainsWhere, NodesSettle, RequestsDrain}
+use Rattle.drain_run.specs.Drain.{live_at, IsIdle, does_wait, waits, IsAnswered, resends, Rounds, DrainsWhere, NodesSettle, RequestsDrain}
 use Rattle.drain_run.specs.Draining.{AllIdle}
-use Rattle.drain_run.specs.Laws.{IsAnswered, DrainDrains, AnswersStayInDrain}
+use Rattle.drain_run.specs.Laws.{SettledNodesIdle, RequestDrainKeepsIdle, DrainDrains, AnswersStayInDrain}
 use Rattle.drain_run.proofs.Settling.{settled_asking, settled_many, settled_idle}
 use Rattle.drain_run.proofs.Rounds.{is_asked, round_stands, round_asked, round_idle}
 
@@ -38,8 +38,8 @@ past_end [] i h = refl
 past_end (x ∷ xs) zero h = absurd (omega (arith, h))
 past_end (x ∷ xs) (suc i) h = past_end xs i (omega (arith, h))
 
-all_idle : (u : Setting) (w v : WorldState) → NodesSettle u (length w.nodes) w v → AllIdle v
-all_idle u w v h i = elim (cases_lt i (length w.nodes)) [
+pub settled_nodes_idle : SettledNodesIdle
+settled_nodes_idle u w v h i = elim (cases_lt i (length w.nodes)) [
   | inl low ↦ nodes_idle u (length w.nodes) i w v h low
   | inr past ↦ let many = nodes_many u (length w.nodes) w v h in ap live_at (past_end v.nodes i (omega (arith, past, many)))
 ]
@@ -81,6 +81,9 @@ where_leaves u r w v true (k, h, e) = let x = rounds_leave u r k (resends u w r)
 where_done : (u : Setting) (r : ℕ) (w v : WorldState) (b : Bool) → waits w r ≡ b → DrainsWhere u r w v b → waits v r ≡ false
 where_done u r w v false e h = ap (λ (x : WorldState). waits x r) h ∙ e
 where_done u r w v true e h = h.2
+
+pub request_drain_keeps_idle : RequestDrainKeepsIdle
+request_drain_keeps_idle u r w v h idle = (where_leaves u r w v (waits w r) h).idle idle
 
 -- ---- all requests
 
@@ -124,7 +127,7 @@ drain_drains u w v (y, h, s) =
     let x = requests_leave u (length y.asking) y v t in
     let done = all_done u y v t in
     record {
-      idle = x.idle (all_idle u w y h);
+      idle = x.idle (settled_nodes_idle u w y h);
       done = done;
       answered = λ r e. is_answered v r (slice_get v.asking r) refl (x.asked r (waits_asked (slice_get y.asking r) (ap (λ z. does_wait (slice_get z r)) same ∙ e))) (done r);
       stands = λ r e. let e2 : waits y r ≡ false = ap (λ z. does_wait (slice_get z r)) same ∙ e in x.stands r e2 ∙ ap (λ z. slice_get z r) same;

@@ -22,7 +22,7 @@ use Rattle.event_run.specs.Always.{asking_at, letter_view, world_view, LetterOf,
 use Rattle.event_run.proofs.Lists.{map_append, leg_map}
 use Rattle.event_run.proofs.Runs.{run_is_explained, event_keeps_run}
 use Rattle.drain_run.specs.Drain.{after_turns, waits, current_leg, resends, Rounds, DrainsWhere, NodesSettle, RequestsDrain}
-use Rattle.drain_run.specs.Laws.{SettlingKeepsRun, RoundKeepsRun, ResendKeepsRun, DrainKeepsRun, DrainIsExplained}
+use Rattle.drain_run.specs.Laws.{SettlingKeepsRun, RoundKeepsRun, ResendKeepsRun, RequestDrainKeepsRun, DrainKeepsRun, DrainIsExplained}
 
 -- ---- a leg that is sent again
 
@@ -92,13 +92,16 @@ request_keeps_run : (u : Setting) (start : f.Flat) (r : ℕ) (v x : WorldState) 
 request_keeps_run u start r v x false set few h run = subst (IsRun u start) (sym h) run
 request_keeps_run u start r v x true set few h run = rounds_keep_run u start r h.0 (resends u v r) x set few h.1 (resend_keeps_run u start v r set few run)
 
+pub request_drain_keeps_run : RequestDrainKeepsRun
+request_drain_keeps_run u start r v x set few h run = request_keeps_run u start r v x (waits v r) set few h run
+
 nodes_keep_run : (u : Setting) (start : f.Flat) (n : ℕ) (v x : WorldState) → IsSetting u → HasNumbers u → NodesSettle u n v x → IsRun u start v → IsRun u start x
 nodes_keep_run u start zero v x set few h run = subst (IsRun u start) (sym h) run
 nodes_keep_run u start (suc n) v x set few (y, h, s) run = settling_keeps_run u start n y x set few s (nodes_keep_run u start n v y set few h run)
 
 requests_keep_run : (u : Setting) (start : f.Flat) (r : ℕ) (v x : WorldState) → IsSetting u → HasNumbers u → RequestsDrain u r v x → IsRun u start v → IsRun u start x
 requests_keep_run u start zero v x set few h run = subst (IsRun u start) (sym h) run
-requests_keep_run u start (suc r) v x set few (y, h, s) run = request_keeps_run u start r y x (waits y r) set few s (requests_keep_run u start r v y set few h run)
+requests_keep_run u start (suc r) v x set few (y, h, s) run = request_drain_keeps_run u start r y x set few s (requests_keep_run u start r v y set few h run)
 
 pub drain_keeps_run : DrainKeepsRun
 drain_keeps_run u start v x set few (y, h, s) run = requests_keep_run u start (length v.asking) y x set few s (nodes_keep_run u start (length v.nodes) v y set few h run)

@@ -1,5 +1,6 @@
 -- The drain: what is done after a schedule, until each request that was asked has its answer.
 use Rattle.std.specs.Prelude.{◌≡◌, ◌≢◌, ℕ, zero, suc, ◌-◌, ◌⊎◌, Bool, true, false, List, [], ◌++◌, length, Option, Some, None, slice_get}
+use Rattle.pulse_base.specs.declared.answer.Answer.{Answer}
 use Rattle.pulse_base.specs.declared.event.Event.TheVariants.{Deliver, Turn}
 use Rattle.pulse_base.specs.declared.event.Trace.{Trace}
 use Rattle.pulse_base.specs.declared.event.Trace.TheVariants.{Started}
@@ -61,6 +62,9 @@ does_wait (Some (Answered a)) = false
 
 abbrev pub waits : WorldState → ℕ → Bool
 waits w r = does_wait (slice_get w.asking r)
+
+abbrev pub IsAnswered : WorldState → ℕ → Type 0
+IsAnswered w r = (a : Answer) × (slice_get w.asking r ≡ Some (Answered a))
 
 abbrev pub current_leg : Option Asking → Option Leg
 current_leg None = None

@@ -7,7 +7,7 @@ use Rattle.run_laws.specs.Laws.{Explained}
 use Rattle.run_views.specs.Setting.{Setting, plan_of, IsSetting}
 use Rattle.event_run.specs.World.{WorldState}
 use Rattle.event_run.specs.Always.{world_view, HasNumbers, IsRun}
-use Rattle.drain_run.specs.Drain.{Settles, Round, waits, resends, DrainsRequest, Drains}
+use Rattle.drain_run.specs.Drain.{Settles, Round, waits, IsAnswered, resends, DrainsRequest, NodesSettle, Drains}
 use Rattle.drain_run.specs.Draining.{AllIdle, drain_measure, IsDraining}
 
 -- ---- each part of the drain, and the whole, have one outcome
@@ -35,6 +35,9 @@ RoundKeepsRun = (u : Setting) (start : f.Flat) (w v : WorldState) → IsSetting 
 abbrev pub ResendKeepsRun : Type 0
 ResendKeepsRun = (u : Setting) (start : f.Flat) (w : WorldState) (r : ℕ) → IsSetting u → HasNumbers u → IsRun u start w → IsRun u start (resends u w r)
 
+abbrev pub RequestDrainKeepsRun : Type 0
+RequestDrainKeepsRun = (u : Setting) (start : f.Flat) (r : ℕ) (w v : WorldState) → IsSetting u → HasNumbers u → DrainsRequest u r w v → IsRun u start w → IsRun u start v
+
 abbrev pub DrainKeepsRun : Type 0
 DrainKeepsRun = (u : Setting) (start : f.Flat) (w v : WorldState) → IsSetting u → HasNumbers u → Drains u w v → IsRun u start w → IsRun u start v
 
@@ -48,16 +51,24 @@ ResendBeginsDraining =
 abbrev pub DrainingHasLetter : Type 0
 DrainingHasLetter = (u : Setting) (start : f.Flat) (w : WorldState) (r : ℕ) → IsDraining u start w r → 0 < length w.letters
 
-abbrev pub IsAnswered : WorldState → ℕ → Type 0
-IsAnswered w r = (a : Answer) × (slice_get w.asking r ≡ Some (Answered a))
-
 abbrev pub RoundAdvances : Type 0
 RoundAdvances =
     (u : Setting) (start : f.Flat) (w v : WorldState) (r : ℕ)
     → IsSetting u → HasNumbers u → IsDraining u start w r → Round u w v
     → (IsAnswered v r × AllIdle v) ⊎ (IsDraining u start v r × (drain_measure u v < drain_measure u w))
 
+-- so the drain of every run has an outcome
+abbrev pub DrainEnds : Type 0
+DrainEnds = (u : Setting) (start : f.Flat) (w : WorldState) → IsSetting u → HasNumbers u → IsRun u start w → (v : WorldState) × Drains u w v
+
 -- ---- what the drain leaves
+
+-- no leg is live once all nodes have settled, nor after a request is drained
+abbrev pub SettledNodesIdle : Type 0
+SettledNodesIdle = (u : Setting) (w v : WorldState) → NodesSettle u (length w.nodes) w v → AllIdle v
+
+abbrev pub RequestDrainKeepsIdle : Type 0
+RequestDrainKeepsIdle = (u : Setting) (r : ℕ) (w v : WorldState) → DrainsRequest u r w v → AllIdle w → AllIdle v
 
 -- no leg is live and no request waits; one that waited is answered, and any other stands as it stood
 pub record Drained (w v : WorldState) : Type 0 where

@@ -5,9 +5,9 @@
 //! what a loop of rounds keeps, and the number that falls.
 #![tactic(auto)]
 
-ghost use Rattle.drain_run.specs.Laws.{AnswersStayInDrain, DrainDrains, DrainIsExplained, DrainKeepsRun, DrainingHasLetter};
-ghost use Rattle.drain_run.specs.Laws.{OneDrain, OneRequestDrain, OneRound, OneSettling};
-ghost use Rattle.drain_run.specs.Laws.{ResendBeginsDraining, ResendKeepsRun, RoundAdvances, RoundKeepsRun, SettlingKeepsRun};
+ghost use Rattle.drain_run.specs.Laws.{AnswersStayInDrain, DrainDrains, DrainEnds, DrainIsExplained, DrainKeepsRun, DrainingHasLetter};
+ghost use Rattle.drain_run.specs.Laws.{OneDrain, OneRequestDrain, OneRound, OneSettling, RequestDrainKeepsIdle, RequestDrainKeepsRun};
+ghost use Rattle.drain_run.specs.Laws.{ResendBeginsDraining, ResendKeepsRun, RoundAdvances, RoundKeepsRun, SettledNodesIdle, SettlingKeepsRun};
 
 /// A node settles in one way.
 pub fn law_one_settling()
@@ -44,6 +44,11 @@ pub fn law_resend_keeps_run()
     ensures { ResendKeepsRun }
 {}
 
+/// So does the drain of a request.
+pub fn law_request_drain_keeps_run()
+    ensures { RequestDrainKeepsRun }
+{}
+
 /// So does the whole drain.
 pub fn law_drain_keeps_run()
     ensures { DrainKeepsRun }
@@ -62,6 +67,21 @@ pub fn law_draining_has_letter()
 /// A round gives the answer, or lowers the measure of the last letter.
 pub fn law_round_advances()
     ensures { RoundAdvances }
+{}
+
+/// The drain of every run ends.
+pub fn law_drain_ends()
+    ensures { DrainEnds }
+{}
+
+/// Once all nodes have settled no leg is live.
+pub fn law_settled_nodes_idle()
+    ensures { SettledNodesIdle }
+{}
+
+/// Nor is one after a request is drained.
+pub fn law_request_drain_keeps_idle()
+    ensures { RequestDrainKeepsIdle }
 {}
 
 /// After the drain no leg is live and no request waits; a request that did not wait stands as it stood.
