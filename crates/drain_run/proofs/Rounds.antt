@@ -1,6 +1,8 @@
 -- A round has one outcome, leaves all nodes idle where they were, and leaves alone each request that does not wait.
-use Rattle.std.proofs.Common.{◌≡◌, ◌≢◌, ℕ, ◌+◌, ◌-◌, ◌^◌, ◌⊎◌, inl, inr, Bool, true, false, [], Option, Some, None, refl, sym, ap, ◌∙◌, subst, nat_eq, if◌then◌else◌, eqb-true}
+use Rattle.std.proofs.Common.{◌≡◌, ◌≢◌, ℕ, ◌+◌, ◌-◌, ◌^◌, ◌⊎◌, inl, inr, Bool, true, false, List, [], Option, Some, None, refl, sym, ap, ◌∙◌, subst, nat_eq, if◌then◌else◌, eqb-true}
 use Rattle.std.specs.Prelude.{slice_get, slice_set}
+use Rattle.pulse_base.specs.declared.answer.Answer.TheVariants as answer
+use Rattle.pulse_base.specs.declared.answer.FaultKind.{FaultKind}
 use Rattle.pulse_base.specs.declared.event.Trace.TheVariants as trace
 use Rattle.frame_codec.specs.declared.frame.Leg.{Leg}
 use Rattle.frame_codec.specs.declared.frame.Back.{Back}
@@ -81,6 +83,29 @@ heard_same t b (Answered a) e = refl
 pub round_stands : (u : Setting) (w v : WorldState) (q : ℕ) → Round u w v → waits w q ≡ false → slice_get v.asking q ≡ slice_get w.asking q
 round_stands u w v q h e = round_keeps (λ o. o ≡ slice_get w.asking q) u w v q (λ t b a same. ap Some (heard_same t b a (ap does_wait same ∙ e)) ∙ same) h refl
 
+-- a back leaves a request waiting, or answers it with Done, Fault or Spent
+either_keeps : (Q : Option Asking → Type 0) (c : Bool) (x y : Asking × Heard) → Q (Some x.0) → Q (Some y.0) → Q (Some (if c then x else y).0)
+either_keeps Q true x y e f = e
+either_keeps Q false x y e f = f
+
+pub record HoldsAfterBacks (Q : Option Asking → Type 0) : Type 0 where
+  pub waiting : (l : Leg) (accepted ticks : ℕ) → Q (Some (Waiting l accepted ticks))
+  pub done : (pad : List ℕ) (count : ℕ) → Q (Some (Answered (answer.Done pad count)))
+  pub fault : (kind : FaultKind) (cur count : ℕ) → Q (Some (Answered (answer.Fault kind cur count)))
+  pub spent : (count : ℕ) → Q (Some (Answered (answer.Spent count)))
+
+ending_keeps : (Q : Option Asking → Type 0) (t : Terms) (b : Back) (was : Asking) (accepted : ℕ) (e : Ending) → HoldsAfterBacks Q → Q (Some was) → Q (Some (hear_ending t b was accepted e).0)
+ending_keeps Q t b was accepted ending.Done h k = h.done b.pad _
+ending_keeps Q t b was accepted (ending.Fault kind) h k = h.fault kind b.cur _
+ending_keeps Q t b was accepted ending.Reroute h k = k
+ending_keeps Q t b was accepted ending.Resume h k =
+    either_keeps Q (nat_eq b.leg (2 ^ 32 - 1)) _ _ k (either_keeps Q (nat_eq (accepted + 1) t.rounds) _ _ (h.spent _) (h.waiting _ _ _))
+
+backs_keep : (Q : Option Asking → Type 0) → HoldsAfterBacks Q → KeptByBacks Q
+backs_keep Q h t b NotAsked k = k
+backs_keep Q h t b (Waiting l accepted ticks) k = either_keeps Q (is_stale t l b) _ _ k (ending_keeps Q t b (Waiting l accepted ticks) accepted b.ending h k)
+backs_keep Q h t b (Answered a) k = k
+
 -- a request that was asked stays asked
 abbrev pub is_asked : Option Asking → Bool
 is_asked None = false
@@ -88,23 +113,17 @@ is_asked (Some NotAsked) = false
 is_asked (Some (Waiting leg accepted ticks)) = true
 is_asked (Some (Answered a)) = true
 
-either_asked : (c : Bool) (x y : Asking × Heard) → is_asked (Some x.0) ≡ true → is_asked (Some y.0) ≡ true → is_asked (Some (if c then x else y).0) ≡ true
-either_asked true x y e f = e
-either_asked false x y e f = f
-
-ending_asked : (t : Terms) (b : Back) (was : Asking) (accepted : ℕ) (e : Ending) → is_asked (Some was) ≡ true → is_asked (Some (hear_ending t b was accepted e).0) ≡ true
-ending_asked t b was accepted ending.Done h = refl
-ending_asked t b was accepted (ending.Fault kind) h = refl
-ending_asked t b was accepted ending.Reroute h = h
-ending_asked t b was accepted ending.Resume h = either_asked (nat_eq b.leg (2 ^ 32 - 1)) _ _ h (either_asked (nat_eq (accepted + 1) t.rounds) _ _ refl refl)
-
-heard_asked : (t : Terms) (b : Back) (a : Asking) → is_asked (Some a) ≡ true → is_asked (Some (hear t b a).0) ≡ true
-heard_asked t b NotAsked e = e
-heard_asked t b (Waiting l accepted ticks) e = either_asked (is_stale t l b) _ _ refl (ending_asked t b (Waiting l accepted ticks) accepted b.ending refl)
-heard_asked t b (Answered a) e = refl
-
 pub round_asked : (u : Setting) (w v : WorldState) (q : ℕ) → Round u w v → is_asked (slice_get w.asking q) ≡ true → is_asked (slice_get v.asking q) ≡ true
-round_asked u w v q h e = round_keeps (λ o. is_asked o ≡ true) u w v q heard_asked h e
+round_asked u w v q h e =
+    round_keeps (λ o. is_asked o ≡ true) u w v q (backs_keep (λ o. is_asked o ≡ true) (record { waiting = λ l i j. refl; done = λ p n. refl; fault = λ k p n. refl; spent = λ n. refl })) h e
+
+-- no request is given up
+pub round_silent : (u : Setting) (w v : WorldState) (q : ℕ) → Round u w v → slice_get v.asking q ≡ Some (Answered answer.Silent) → slice_get w.asking q ≡ Some (Answered answer.Silent)
+round_silent u w v q h e =
+    round_keeps (λ o. o ≡ Some (Answered answer.Silent) → slice_get w.asking q ≡ Some (Answered answer.Silent)) u w v q
+    (backs_keep (λ o. o ≡ Some (Answered answer.Silent) → slice_get w.asking q ≡ Some (Answered answer.Silent))
+    (record { waiting = λ l i j x. absurd (cc); done = λ p n x. absurd (cc); fault = λ k p n x. absurd (cc); spent = λ n x. absurd (cc) }))
+    h (λ x. x) e
 
 -- ---- all nodes are idle after it
 
