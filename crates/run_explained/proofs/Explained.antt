@@ -1,5 +1,5 @@
 -- Runs of a scenario are explained.
-use Rattle.std.proofs.Common.{◌≡◌, ℕ, ◌<◌, ◌⊎◌, inl, inr, List, [], ◌∷◌, length, map, Option, Some, None, refl, sym, ap, ◌∙◌, subst, arith}
+use Rattle.std.proofs.Common.{◌≡◌, ◌≢◌, ℕ, ◌<◌, ◌⊎◌, inl, inr, List, [], ◌∷◌, length, Option, Some, None, refl, sym, ap, ◌∙◌, subst, arith}
 use Rattle.std.proofs.lemmas.List.{length-map, length-replicate}
 use Rattle.std.specs.Prelude.{slice_get, option_map, IsTrue}
 use Rattle.pulse_base.specs.declared.answer.FaultKind.{FaultKind}
@@ -11,13 +11,11 @@ use Rattle.scenario_text.specs.declared.plan.PlanRegion.{PlanRegion}
 use Rattle.scenario_text.specs.declared.scenario.Scenario.{Scenario}
 use Rattle.scenario_text.specs.Accepted.{IsRunnable}
 use Rattle.flat_run.specs.declared.state.FlatRegion.{FlatRegion}
-use Rattle.flat_run.specs.Region.{spans}
 use Rattle.flat_run.specs.Due.{due}
-use Rattle.run_rules.specs.declared.client.Asking.{Asking}
 use Rattle.run_rules.specs.declared.client.Asking.TheVariants.{NotAsked, Answered}
 use Rattle.run_laws.specs.Plan as p
 use Rattle.run_laws.specs.Flat as f
-use Rattle.run_laws.specs.Laws.{Explained, AnswerFits}
+use Rattle.run_laws.specs.Laws.{AnswerFits}
 use Rattle.run_laws.specs.Spines.Sound.{Each}
 use Rattle.run_views.specs.Frames.{kind_view}
 use Rattle.run_views.specs.Setting.{Setting, plan_of, owner_of, IsSetting}
@@ -33,71 +31,57 @@ use Rattle.scenario_flat.specs.Runs.{walks_of, limit_of, first_of, after}
 use Rattle.scenario_run.specs.Setting.{setting_of}
 use Rattle.scenario_run.specs.Start.{start_of}
 use Rattle.run_explained.specs.View.{region_bytes, flat_view, answer_view}
-use Rattle.run_explained.specs.Explained.{HoldsRegion, IsExplained}
+use Rattle.run_explained.specs.Explained.{HoldsRegion}
 use Rattle.run_explained.specs.Laws.{NamesRequests, RunIsExplained, EventRunIsExplained}
 use Rattle.run_explained.proofs.Orders.{run_stays}
 use Rattle.run_explained.proofs.Named.{order_is_of_requests}
 use Rattle.run_explained.proofs.Requests.{event_keeps_requests}
-use Rattle.run_explained.proofs.Scenarios.{walks_are, first_is, owner_is, flat_start_is, flat_is, due_is}
+use Rattle.run_explained.proofs.Scenarios.{first_is, owner_is, flat_start_is, flat_is, due_is}
 
 -- ---- answers
 
-kind_one : (a b : FaultKind) → kind_view a ≡ kind_view b → a ≡ b
-kind_one fault.Unmapped fault.Unmapped e = refl
-kind_one fault.Unmapped fault.NotReadable e = absurd (cc)
-kind_one fault.Unmapped fault.NotWritable e = absurd (cc)
-kind_one fault.Unmapped fault.DivZero e = absurd (cc)
-kind_one fault.NotReadable fault.Unmapped e = absurd (cc)
-kind_one fault.NotReadable fault.NotReadable e = refl
-kind_one fault.NotReadable fault.NotWritable e = absurd (cc)
-kind_one fault.NotReadable fault.DivZero e = absurd (cc)
-kind_one fault.NotWritable fault.Unmapped e = absurd (cc)
-kind_one fault.NotWritable fault.NotReadable e = absurd (cc)
-kind_one fault.NotWritable fault.NotWritable e = refl
-kind_one fault.NotWritable fault.DivZero e = absurd (cc)
-kind_one fault.DivZero fault.Unmapped e = absurd (cc)
-kind_one fault.DivZero fault.NotReadable e = absurd (cc)
-kind_one fault.DivZero fault.NotWritable e = absurd (cc)
-kind_one fault.DivZero fault.DivZero e = refl
+-- what is seen of an answer, read back
+abbrev kind_back : p.FaultKind → FaultKind
+kind_back p.Unmapped = fault.Unmapped
+kind_back p.NotReadable = fault.NotReadable
+kind_back p.NotWritable = fault.NotWritable
+kind_back p.DivZero = fault.DivZero
 
--- the answer that is seen is the answer
-done_one : (d : Option Answer) (pad : List ℕ) (n : ℕ) → option_map answer_view d ≡ Some (f.DoneWith pad n) → d ≡ Some (answer.Done pad n)
-done_one None pad n e = absurd (cc)
-done_one (Some (answer.Done pad2 n2)) pad n e = let x : pad2 ≡ pad = cc in let y : n2 ≡ n = cc in λ j. Some (answer.Done (x j) (y j))
-done_one (Some (answer.Fault kind cur n2)) pad n e = absurd (cc)
-done_one (Some (answer.Spent n2)) pad n e = absurd (cc)
-done_one (Some answer.Silent) pad n e = absurd (cc)
-done_one (Some answer.Unasked) pad n e = absurd (cc)
-done_one (Some answer.Waiting) pad n e = absurd (cc)
+abbrev answer_back : f.Answer → Answer
+answer_back (f.DoneWith pad n) = answer.Done pad n
+answer_back (f.FaultAt kind cur n) = answer.Fault (kind_back kind) cur n
+answer_back (f.Spent n) = answer.Spent n
+answer_back f.Silent = answer.Silent
 
-fault_one : (d : Option Answer) (kind : FaultKind) (cur n : ℕ) → option_map answer_view d ≡ Some (f.FaultAt (kind_view kind) cur n) → d ≡ Some (answer.Fault kind cur n)
-fault_one None kind cur n e = absurd (cc)
-fault_one (Some (answer.Done pad n2)) kind cur n e = absurd (cc)
-fault_one (Some (answer.Fault kind2 cur2 n2)) kind cur n e =
-    let x : kind_view kind2 ≡ kind_view kind = cc in
-    let y : cur2 ≡ cur = cc in
-    let z : n2 ≡ n = cc in
-    let k = kind_one kind2 kind x in
-    λ j. Some (answer.Fault (k j) (y j) (z j))
-fault_one (Some (answer.Spent n2)) kind cur n e = absurd (cc)
-fault_one (Some answer.Silent) kind cur n e = absurd (cc)
-fault_one (Some answer.Unasked) kind cur n e = absurd (cc)
-fault_one (Some answer.Waiting) kind cur n e = absurd (cc)
+kind_same : (kind : FaultKind) → kind_back (kind_view kind) ≡ kind
+kind_same fault.Unmapped = refl
+kind_same fault.NotReadable = refl
+kind_same fault.NotWritable = refl
+kind_same fault.DivZero = refl
 
-spent_one : (d : Option Answer) (n : ℕ) → option_map answer_view d ≡ Some (f.Spent n) → d ≡ Some (answer.Spent n)
-spent_one None n e = absurd (cc)
-spent_one (Some (answer.Done pad n2)) n e = absurd (cc)
-spent_one (Some (answer.Fault kind cur n2)) n e = absurd (cc)
-spent_one (Some (answer.Spent n2)) n e = let y : n2 ≡ n = cc in λ j. Some (answer.Spent (y j))
-spent_one (Some answer.Silent) n e = absurd (cc)
-spent_one (Some answer.Unasked) n e = absurd (cc)
-spent_one (Some answer.Waiting) n e = absurd (cc)
+-- unless it is seen as Silent, it is the same
+same_or_silent : (a : Answer) → (answer_view a ≡ f.Silent) ⊎ (answer_back (answer_view a) ≡ a)
+same_or_silent (answer.Done pad n) = inr refl
+same_or_silent (answer.Fault kind cur n) = inr (ap (λ k. answer.Fault k cur n) (kind_same kind))
+same_or_silent (answer.Spent n) = inr refl
+same_or_silent answer.Silent = inl refl
+same_or_silent answer.Unasked = inl refl
+same_or_silent answer.Waiting = inl refl
+
+read_back : (d : Option Answer) (y : f.Answer) → y ≢ f.Silent → option_map answer_view d ≡ Some y → d ≡ Some (answer_back y)
+read_back None y h e = absurd (cc)
+read_back (Some a) y h e =
+    let seen : answer_view a ≡ y = cc in
+    elim (same_or_silent a) [ inl silent ↦ absurd (h (sym seen ∙ silent)) | inr same ↦ ap (λ z. Some z) (sym same ∙ ap answer_back seen) ]
 
 answer_fits : (P : p.Plan) (r : ℕ) (v : f.Flat) (d : Option Answer) (a : Answer) → option_map answer_view d ≡ f.due P r (v.requests r) → IsAnswer a
     → AnswerFits P r v (asking_view (Answered a)) → (a ≡ answer.Silent) ⊎ (d ≡ Some a)
-answer_fits P r v d (answer.Done pad n) e is fits = elim fits [ inl silent ↦ absurd (cc) | inr due_is ↦ inr (done_one d pad n (e ∙ due_is)) ]
-answer_fits P r v d (answer.Fault kind cur n) e is fits = elim fits [ inl silent ↦ absurd (cc) | inr due_is ↦ inr (fault_one d kind cur n (e ∙ due_is)) ]
-answer_fits P r v d (answer.Spent n) e is fits = elim fits [ inl silent ↦ absurd (cc) | inr due_is ↦ inr (spent_one d n (e ∙ due_is)) ]
+answer_fits P r v d (answer.Done pad n) e is fits = elim fits [ inl silent ↦ absurd (cc) | inr owed ↦ inr (read_back d (f.DoneWith pad n) (λ s. absurd (cc)) (e ∙ owed)) ]
+answer_fits P r v d (answer.Fault kind cur n) e is fits = elim fits [
+  | inl silent ↦ absurd (cc)
+  | inr owed ↦ inr (read_back d (f.FaultAt (kind_view kind) cur n) (λ s. absurd (cc)) (e ∙ owed) ∙ ap (λ k. Some (answer.Fault k cur n)) (kind_same kind))
+]
+answer_fits P r v d (answer.Spent n) e is fits = elim fits [ inl silent ↦ absurd (cc) | inr owed ↦ inr (read_back d (f.Spent n) (λ s. absurd (cc)) (e ∙ owed)) ]
 answer_fits P r v d answer.Silent e is fits = inl refl
 answer_fits P r v d answer.Unasked e is fits = absurd is
 answer_fits P r v d answer.Waiting e is fits = absurd is
@@ -141,11 +125,11 @@ run_is_explained s h w many run =
       legal = subst IsTrue (ap (λ z. f.is_legal P z w.order) start ∙ same.0) x.legal;
       memory = λ i r e. held s h w i r e (run.of.owners i) (x.memory i ∙ ap (λ (z : f.Flat). z.regions i) after_is);
       answers = λ r a e.
-        (let low = low_get w.asking r (Answered a) e in
-        answer_fits P r (flat_view u (after s w.order)) (due (walks_of s) (limit_of s.plan) (after s w.order) r) a
-        (due_is s h w.order r (omega (arith, low, many)))
-        (run.of.asking r (Answered a) e)
-        (subst (λ z. AnswerFits P r z (asking_view (Answered a))) after_is (subst (λ o. AnswerFits P r (f.flat_run P (flat_start u (start_of s)) w.order) (asking_at o)) e (x.answers r))));
+          (let low = low_get w.asking r (Answered a) e in
+          answer_fits P r (flat_view u (after s w.order)) (due (walks_of s) (limit_of s.plan) (after s w.order) r) a
+          (due_is s h w.order r (omega (arith, low, many)))
+          (run.of.asking r (Answered a) e)
+          (subst (λ z. AnswerFits P r z (asking_view (Answered a))) after_is (subst (λ o. AnswerFits P r (f.flat_run P (flat_start u (start_of s)) w.order) (asking_at o)) e (x.answers r))));
     }
 
 runs_on : (u : Setting) (start : f.Flat) (w : WorldState) (es : List Event) → IsSetting u → HasNumbers u → AreEventsOf u w es → IsRun u start w

@@ -1,8 +1,8 @@
 -- The order of a run names only requests that are there: a request that no client has is as it begins, and after an iteration none is.
-use Rattle.std.proofs.Common.{◌≡◌, ◌≢◌, ℕ, zero, suc, ◌+◌, ◌-◌, ◌*◌, ◌<◌, ◌≤◌, Bool, true, false, ◌&&◌, inl, inr, List, [], ◌∷◌, length, Option, Some, None, refl, sym, ap, ◌∙◌, subst, nat_eq, nat_lt, if◌then◌else◌, arith, eqb-true, add-one}
+use Rattle.std.proofs.Common.{◌≡◌, ◌≢◌, ℕ, zero, suc, ◌+◌, ◌-◌, ◌*◌, ◌<◌, ◌≤◌, Bool, true, false, ◌&&◌, inl, inr, List, [], ◌∷◌, length, refl, sym, ap, ◌∙◌, subst, nat_eq, nat_lt, if◌then◌else◌, arith, eqb-true}
 use Rattle.std.proofs.lemmas.Bool.{cases_lt}
 use Rattle.std.proofs.lemmas.Option.{slice_get_past}
-use Rattle.std.specs.Prelude.{slice_get, IsTrue}
+use Rattle.std.specs.Prelude.{IsTrue}
 use Rattle.run_laws.specs.Plan.{Begun, Begins, Finished, Faulted, Outcome, Finishes, Goes, Faults, Plan, first_progress, limit, Arrival, Here, Barred, Nowhere, arrive}
 use Rattle.run_laws.specs.Flat.{FlatRequest, Ready, Completed, Failed, Flat, begun_flat, flat_next, flat_at, flat_turn, flat_step, flat_run, is_here, can_turn, is_legal}
 use Rattle.run_laws.specs.Client.{NotAsked}
@@ -91,9 +91,10 @@ unmoved_unnamed : (P : Plan) (v : Flat) (order : List ℕ) (r : ℕ) → IsTrue 
 unmoved_unnamed P v [] r legal h = tt
 unmoved_unnamed P v (q ∷ order) r legal h =
     let x = and_true (can_turn P q (v.requests q)) (is_legal P (flat_step P v q) order) legal in
-    let moved = run_moved P (flat_step P v q) order q (own_moves P v q (v.requests q) x.0) in
-    ((λ same. clash (sym h ∙ ap (λ z. has_moved ((flat_run P (flat_step P v q) order).requests z)) (sym same) ∙ moved)),
-     unmoved_unnamed P (flat_step P v q) order r x.1 h)
+    let moved = run_moved P (flat_step P v q) order q (own_moves P v q (v.requests q) x.0) in (
+      (λ same. clash (sym h ∙ ap (λ z. has_moved ((flat_run P (flat_step P v q) order).requests z)) (sym same) ∙ moved)),
+      unmoved_unnamed P (flat_step P v q) order r x.1 h,
+    )
 
 -- nor is one that was at its end before
 abbrev has_ended : FlatRequest → Bool

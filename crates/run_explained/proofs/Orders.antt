@@ -1,10 +1,10 @@
 -- Whole orders of a flat run, and the answers that are due after them, seen by functions.
-use Rattle.std.proofs.Common.{◌≡◌, ℕ, ◌*◌, ◌<◌, Bool, true, false, ◌&&◌, List, [], ◌∷◌, length, map, Option, Some, None, refl, sym, ap, ◌∙◌, subst, nat_eq, if◌then◌else◌, arith}
-use Rattle.std.specs.Prelude.{slice_get, slice_set, is_some, option_map}
+use Rattle.std.proofs.Common.{◌≡◌, ℕ, ◌<◌, Bool, true, false, ◌&&◌, List, [], ◌∷◌, length, map, Option, Some, None, refl, sym, ap, ◌∙◌, nat_eq, if◌then◌else◌, arith}
+use Rattle.std.specs.Prelude.{slice_get, option_map}
 use Rattle.pulse_base.specs.declared.answer.Answer.{Answer}
 use Rattle.pulse_base.specs.declared.answer.Answer.TheVariants as answer
 use Rattle.range_table.specs.declared.region.RegionSpan.{RegionSpan}
-use Rattle.range_table.specs.Memory.{Arrival, Here, NotReadable, arrive, arrival_in, region_of, may_read}
+use Rattle.range_table.specs.Memory.{Here, NotReadable, arrive, arrival_in, region_of, may_read}
 use Rattle.iter_check.specs.Iteration.{Iterated}
 use Rattle.iter_check.specs.Iteration as i
 use Rattle.flat_run.specs.declared.state.FlatRegion.{FlatRegion}
@@ -58,9 +58,10 @@ pub same_run : (u : Setting) (walks : List Walk) (x : FlatState) (order : List �
 same_run u walks x [] of st low = (refl, refl)
 same_run u walks x (r ∷ order) of st low =
     let step = same_step u walks x r of st low.0 in
-    let rest = same_run u walks (flat_step walks (most u) x r) order of (step_stays u walks x r st) low.1 in
-    ((λ j. step.0 j && f.is_legal (plan_of u) (step.1 j) order) ∙ ap (λ b. can_step walks (most u) x r && b) rest.0,
-     ap (λ z. f.flat_run (plan_of u) z order) step.1 ∙ rest.1)
+    let rest = same_run u walks (flat_step walks (most u) x r) order of (step_stays u walks x r st) low.1 in (
+      (λ j. step.0 j && f.is_legal (plan_of u) (step.1 j) order) ∙ ap (λ b. can_step walks (most u) x r && b) rest.0,
+      ap (λ z. f.flat_run (plan_of u) z order) step.1 ∙ rest.1,
+    )
 
 -- ---- what is due
 

@@ -1,7 +1,6 @@
 -- No event changes how many requests there are.
 use Rattle.std.proofs.Common.{◌≡◌, ℕ, List, [], ◌∷◌, length, Option, Some, None, refl}
 use Rattle.std.specs.Prelude.{slice_get}
-use Rattle.pulse_base.specs.declared.event.Event.{Event}
 use Rattle.pulse_base.specs.declared.event.Event.TheVariants as event
 use Rattle.run_rules.specs.declared.node.LiveLeg.{LiveLeg}
 use Rattle.run_rules.specs.declared.client.Asking.{Asking}

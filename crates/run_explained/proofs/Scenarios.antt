@@ -1,5 +1,5 @@
 -- The flat run of the laws of runs over a scenario's setting is the scenario's flat run.
-use Rattle.std.proofs.Common.{◌≡◌, ℕ, zero, suc, ◌+◌, ◌*◌, ◌<◌, ◌≤◌, inl, inr, Bool, true, false, List, [], ◌∷◌, length, map, filter_map, All, Option, Some, None, refl, sym, ap, ◌∙◌, subst, nat_eq, if◌then◌else◌, arith}
+use Rattle.std.proofs.Common.{◌≡◌, ℕ, zero, suc, ◌+◌, ◌<◌, ◌≤◌, inl, inr, Bool, true, false, List, [], ◌∷◌, length, map, filter_map, Option, Some, None, refl, sym, ap, ◌∙◌, subst, nat_eq, if◌then◌else◌, arith}
 use Rattle.std.proofs.lemmas.Bool.{cases_lt}
 use Rattle.std.proofs.lemmas.List.{length-map}
 use Rattle.std.proofs.lemmas.Option.{slice_get-map, get_or_from_slice_get, slice_get_past}
@@ -7,7 +7,6 @@ use Rattle.std.specs.Prelude.{slice_get, slice_index_or, option_map}
 use Rattle.std.specs.List.{cons_option}
 use Rattle.std.specs.Option.{option_or}
 use Rattle.pulse_base.specs.declared.plan.RequestPlan.{RequestPlan}
-use Rattle.range_table.specs.Memory.{may_write}
 use Rattle.iter_syntax.specs.declared.tree.Iter.{Iter}
 use Rattle.iter_syntax.specs.declared.tree.Program.{Program}
 use Rattle.iter_check.specs.FaultList.{record_fields}
@@ -16,12 +15,11 @@ use Rattle.iter_check.specs.Iteration as i
 use Rattle.scenario_text.specs.declared.plan.PlanRegion.{PlanRegion}
 use Rattle.scenario_text.specs.declared.scenario.Scenario.{Scenario}
 use Rattle.scenario_text.specs.Accepted.{IsRunnable}
-use Rattle.flat_run.specs.declared.state.FlatRegion.{FlatRegion}
-use Rattle.flat_run.specs.declared.state.FlatRequest.{FlatRequest}
 use Rattle.flat_run.specs.Walk.{Walk, record_size}
 use Rattle.flat_run.specs.Request.{asked}
 use Rattle.flat_run.specs.Request as request
 use Rattle.flat_run.specs.Region.{spans}
+use Rattle.run_rules.specs.declared.node.NodeRegion.{NodeRegion}
 use Rattle.run_rules.specs.Node.{size_in}
 use Rattle.run_laws.specs.Flat as f
 use Rattle.run_laws.specs.Spines.Sound.{Each}
@@ -36,7 +34,7 @@ use Rattle.scenario_run.specs.Setting.{outcome_of, begun_of, iterate_by, begin_b
 use Rattle.scenario_run.specs.Start.{regions_on, first_node, first_nodes, start_of}
 use Rattle.run_explained.specs.View.{region_bytes, request_view, begins_in, flat_view}
 use Rattle.run_explained.specs.Laws.{FlatStartIs, FlatIs, DueIs, NamesRequests}
-use Rattle.run_explained.proofs.Steps.{by_bool, AreWalksOf, IsStateOf}
+use Rattle.run_explained.proofs.Steps.{AreWalksOf, IsStateOf}
 use Rattle.run_explained.proofs.Orders.{run_stays, same_run, same_due}
 
 -- ---- the walks
@@ -91,18 +89,22 @@ walks_are s h = record { sizes = sizes; begins = begins; iterates = iterates }
   where
     found : (r : ℕ) (w : Walk) → slice_get (walks_of s) r ≡ Some w → IsWalkOf s.checked (s.plan).requests r w
     found r w e = walk_there s.checked (s.plan).requests r w (iters_there s h) e
+
     request_is : (r : ℕ) (w : Walk) (x : IsWalkOf s.checked (s.plan).requests r w) → request_of (s.plan).requests r ≡ Some x.request
     request_is r w x = ap (λ o. option_or o (slice_get (s.plan).requests 0)) x.at
+
     sizes : (r : ℕ) (w : Walk) → slice_get (walks_of s) r ≡ Some w → setting.record_size (setting_of s h) r ≡ record_size w
     sizes r w e =
         let x = found r w e in
         ap (λ o. size_in (slice_get (map (sizes_of s.checked) (s.checked).iters) (iter_in o))) (request_is r w x)
         ∙ ap size_in (slice_get-map (sizes_of s.checked) (s.checked).iters x.request.iter ∙ ap (option_map (sizes_of s.checked)) x.there)
         ∙ ap record_size x.same
+
     begins : (r : ℕ) (w : Walk) → slice_get (walks_of s) r ≡ Some w → (setting_of s h).begin r ≡ begun_of (begin w.iter w.args)
     begins r w e =
         let x = found r w e in
         ap (begin_in s.checked) (request_is r w x) ∙ ap (λ o. begin_by o x.request.args.items) x.there ∙ ap (λ (z : Walk). begun_of (begin z.iter z.args)) x.same
+
     iterates : (r : ℕ) (w : Walk) (bytes : List ℕ) (cur : ℕ) (pad : List ℕ) (writable : Bool) → slice_get (walks_of s) r ≡ Some w
         → (setting_of s h).iterate ((setting_of s h).program r) bytes cur pad writable ≡ outcome_of (iteration w.fields w.iter bytes cur pad writable)
     iterates r w bytes cur pad writable e =
@@ -125,35 +127,34 @@ abbrev bytes_if : ℕ → Option PlanRegion → List ℕ
 bytes_if n None = []
 bytes_if n (Some r) = if nat_eq r.node n then r.bytes else []
 
+-- a region that may be first
+abbrev numbered : ℕ → PlanRegion → NodeRegion
+numbered k r = record { number = k; span = r.span; bytes = r.bytes }
+
+first_other : (b : Bool) (g : NodeRegion) (regions : List NodeRegion) (j : ℕ) (bytes : List ℕ) → nat_eq g.number j ≡ false → bytes_numbered regions j ≡ bytes
+    → bytes_numbered (if b then g ∷ regions else regions) j ≡ bytes
+first_other true g regions j bytes e h = ap (λ b. if b then g.bytes else bytes_numbered regions j) e ∙ h
+first_other false g regions j bytes e h = h
+
+first_own : (b : Bool) (g : NodeRegion) (regions : List NodeRegion) (j : ℕ) → nat_eq g.number j ≡ true → bytes_numbered regions j ≡ []
+    → bytes_numbered (if b then g ∷ regions else regions) j ≡ (if b then g.bytes else [])
+first_own true g regions j e h = ap (λ b. if b then g.bytes else bytes_numbered regions j) e
+first_own false g regions j e h = h
+
 lower_on : (n k : ℕ) (regions : List PlanRegion) (j : ℕ) → j < k → bytes_numbered (regions_on n k regions) j ≡ []
 lower_on n k [] j low = refl
-lower_on n k (r ∷ regions) j low = by_bool (nat_eq r.node n)
-    (λ t. let e : nat_eq k j ≡ false = grind arith in
-        ap (λ b. bytes_numbered (if b then record { number = k; span = r.span; bytes = r.bytes } ∷ regions_on n (suc k) regions else regions_on n (suc k) regions) j) t
-        ∙ ap (λ b. if b then r.bytes else bytes_numbered (regions_on n (suc k) regions) j) e
-        ∙ lower_on n (suc k) regions j (omega (arith, low)))
-    (λ t. ap (λ b. bytes_numbered (if b then record { number = k; span = r.span; bytes = r.bytes } ∷ regions_on n (suc k) regions else regions_on n (suc k) regions) j) t
-        ∙ lower_on n (suc k) regions j (omega (arith, low)))
+lower_on n k (r ∷ regions) j low =
+    let other : nat_eq k j ≡ false = grind arith in
+    first_other (nat_eq r.node n) (numbered k r) (regions_on n (suc k) regions) j [] other (lower_on n (suc k) regions j (omega (arith, low)))
 
 bytes_on : (n k : ℕ) (regions : List PlanRegion) (i j : ℕ) → j ≡ k + i → bytes_numbered (regions_on n k regions) j ≡ bytes_if n (slice_get regions i)
 bytes_on n k [] i j e = refl
 bytes_on n k (r ∷ regions) zero j e =
     let own : nat_eq k j ≡ true = grind arith in
-    by_bool (nat_eq r.node n)
-    (λ t. ap (λ b. bytes_numbered (if b then record { number = k; span = r.span; bytes = r.bytes } ∷ regions_on n (suc k) regions else regions_on n (suc k) regions) j) t
-        ∙ ap (λ b. if b then r.bytes else bytes_numbered (regions_on n (suc k) regions) j) own
-        ∙ sym (ap (λ b. if b then r.bytes else []) t))
-    (λ t. ap (λ b. bytes_numbered (if b then record { number = k; span = r.span; bytes = r.bytes } ∷ regions_on n (suc k) regions else regions_on n (suc k) regions) j) t
-        ∙ lower_on n (suc k) regions j (omega (arith, e))
-        ∙ sym (ap (λ b. if b then r.bytes else []) t))
+    first_own (nat_eq r.node n) (numbered k r) (regions_on n (suc k) regions) j own (lower_on n (suc k) regions j (omega (arith, e)))
 bytes_on n k (r ∷ regions) (suc i) j e =
     let other : nat_eq k j ≡ false = grind arith in
-    by_bool (nat_eq r.node n)
-    (λ t. ap (λ b. bytes_numbered (if b then record { number = k; span = r.span; bytes = r.bytes } ∷ regions_on n (suc k) regions else regions_on n (suc k) regions) j) t
-        ∙ ap (λ b. if b then r.bytes else bytes_numbered (regions_on n (suc k) regions) j) other
-        ∙ bytes_on n (suc k) regions i j (omega (arith, e)))
-    (λ t. ap (λ b. bytes_numbered (if b then record { number = k; span = r.span; bytes = r.bytes } ∷ regions_on n (suc k) regions else regions_on n (suc k) regions) j) t
-        ∙ bytes_on n (suc k) regions i j (omega (arith, e)))
+    first_other (nat_eq r.node n) (numbered k r) (regions_on n (suc k) regions) j (bytes_if n (slice_get regions i)) other (bytes_on n (suc k) regions i j (omega (arith, e)))
 
 node_first : (s : Scenario) (n count k : ℕ) → k < count → slice_get (first_nodes s n count) k ≡ Some (first_node s (n + k))
 node_first s n zero k low = absurd (omega (arith, low))
