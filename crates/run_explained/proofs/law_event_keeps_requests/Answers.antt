@@ -1,0 +1,5 @@
+use Rattle.run_explained.proofs.Requests as laws
+use Rattle.run_explained.proofs.law_event_keeps_requests.Goals as goal
+
+pub returns : goal.returns
+returns c = laws.event_keeps_requests
