@@ -47,10 +47,13 @@ fn above(level: &Level) -> Level
     }
 }
 
-/// The last level, of one record.
+/// The last level. It has one record.
 pub(crate) fn root(most: u32, level: &Level) -> Level
     requires fits { LevelFits level.now }
+    requires some { 1 ≤ level.now.size }
+    requires most { level.now.size ≤ most + 1 }
     ensures level { result ≡ root most level.now }
+    ensures one { result.size ≡ 1 }
     ensures fits { LevelFits result }
 {
     if most == 0 || level.size <= 1 {
