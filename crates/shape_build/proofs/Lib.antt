@@ -1,0 +1,4 @@
+pub mod Below
+pub mod Drawing
+pub mod Filled
+pub mod Rising
