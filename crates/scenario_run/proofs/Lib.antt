@@ -5,3 +5,4 @@ pub mod Shares
 pub mod Worlds
 pub mod Happening
 pub mod Codes
+pub mod Running

@@ -4,7 +4,13 @@ use Rattle.std.specs.Prelude.{◌≡◌, ◌<◌, ◌^◌, ℕ, List, length, So
 use Rattle.pulse_base.specs.declared.plan.RequestPlan.{RequestPlan}
 use Rattle.code_image.specs.declared.image.Image.{Image}
 use Rattle.pulse_codegen.specs.Compiled.{CompilesAll}
-use Rattle.run_views.specs.Setting.{IsSetting}
+use Rattle.leg_ledger.specs.declared.leg.LegKey.{LegKey}
+use Rattle.run_rules.specs.declared.node.LiveLeg.{LiveLeg}
+use Rattle.run_rules.specs.Node.{NodeState, find_live}
+use Rattle.run_rules.specs.Turning.{record_of, is_writable}
+use Rattle.run_views.specs.Setting.{Setting, IsSetting}
+use Rattle.run_views.specs.Nodes.{outcome_of, IsNodeOf}
+use Rattle.node_core.specs.Code.{code_run}
 use Rattle.client_core.specs.Begins.{begin_of}
 use Rattle.event_run.specs.World.{WorldState}
 use Rattle.event_run.specs.Always.{HasNumbers, IsEventOf}
@@ -41,3 +47,10 @@ BeginIs =
     (s : Scenario) (h : IsRunnable s) (images : List Image) (r : ℕ) (q : RequestPlan)
     → CompilesAll s.checked images → slice_get (s.plan).requests r ≡ Some q → All (λ v. v < 2 ^ 64) q.args.items
     → (begin_of images q ≡ begin_by (slice_get (s.checked).iters q.iter) q.args.items) × (begin_of images q ≡ (setting_of s h).begin r)
+
+-- at a live leg of a node of a run, the run of the code of such images is the outcome that the setting asks
+abbrev pub TurnRuns : Type 0
+TurnRuns =
+    (u : Setting) (i : ℕ) (s : NodeState) (q : LegKey) (e : LiveLeg) (images : List Image)
+    → IsSetting u → IsNodeOf u i s → find_live s.live q ≡ Some e → IsCodeOf u images
+    → outcome_of u s e.leg ≡ code_run images e.leg (record_of s e.leg) (is_writable s e.leg)

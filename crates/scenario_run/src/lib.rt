@@ -3,7 +3,7 @@
 //! `Start` and `Code`, and what is proved in `Laws`.
 #![tactic(auto)]
 
-ghost use Rattle.scenario_run.specs.Laws.{BeginIs, CodeIs, EventsAre, HasNumbersLaw, SettingIs, StartIs};
+ghost use Rattle.scenario_run.specs.Laws.{BeginIs, CodeIs, EventsAre, HasNumbersLaw, SettingIs, StartIs, TurnRuns};
 
 /// The regions make a table, each request has a program and a client, and the source's iterations keep lengths.
 pub fn law_setting_is()
@@ -33,4 +33,9 @@ pub fn law_code_is()
 /// The walks of compiled images begin as the source says.
 pub fn law_begin_is()
     ensures { BeginIs }
+{}
+
+/// At a live leg of a run, the code of such images gives the outcome that the setting asks.
+pub fn law_turn_runs()
+    ensures { TurnRuns }
 {}
