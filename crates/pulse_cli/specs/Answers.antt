@@ -11,6 +11,8 @@ use Rattle.code_image.specs.Spelling.{Spells}
 use Rattle.code_image.specs.Checks.{Refuses}
 use Rattle.code_image.specs.Listing.{listing}
 use Rattle.layout_text.specs.Decls.{layout_text}
+use Rattle.flat_walk.specs.declared.fault.WalkFault.TheVariants as walk
+use Rattle.flat_walk.specs.Answer.{WalkAnswer}
 use Rattle.pulse_cli.specs.declared.command.Command.{Command}
 use Rattle.pulse_cli.specs.declared.command.Command.TheVariants as c
 use Rattle.pulse_cli.specs.declared.failure.Refusal.{Refusal}
@@ -43,9 +45,14 @@ abbrev pub verified_text : Image → List ℕ
 verified_text image =
     codes "verified init " ++ decimal (length image.init_code) ++ codes " body " ++ decimal (length image.body_code) ++ codes "\n"
 
--- of a walk nothing is said yet
+-- what is answered of a document that is to be walked: the report, or why there is none
+abbrev pub AnswersWalk : List ℕ → Result (List ℕ) Refusal → Type 0
+AnswersWalk document (Ok report) = WalkAnswer document (Ok report)
+AnswersWalk document (Err (r.Walk fault)) = (fault ≢ walk.Memory) × WalkAnswer document (Err fault)
+AnswersWalk document (Err _) = ⊥
+
 abbrev pub Answers : Command → List ℕ → Result (List ℕ) Refusal → Type 0
-Answers c.Walk document answer = Unit {0}
+Answers c.Walk document answer = AnswersWalk document answer
 Answers c.Check text (Ok output) = (program : Program) × HasProgram text program × (output ≡ layout_text program)
 Answers c.Check text (Err refusal) = RefusesProgram text refusal
 Answers c.Format text (Ok output) = (program : Program) × HasProgram text program × (output ≡ printed program)

@@ -1,5 +1,4 @@
 pub mod Answers
-pub mod Asked
 pub mod Ending
 pub mod Lines
 pub mod Steps

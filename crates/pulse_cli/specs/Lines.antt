@@ -1,6 +1,7 @@
 -- The status of each failure, and the line that is said of it.
 use Rattle.std.specs.Prelude.{ℕ, List, [], ◌∷◌, ◌++◌, codes, decimal}
 use Rattle.code_image.specs.Lines.{fault_text}
+use Rattle.flat_walk.specs.Lines.{words_of}
 use Rattle.iter_check.specs.Words.{kind_word}
 use Rattle.pulse_base.specs.declared.status.Status.{Status}
 use Rattle.pulse_base.specs.declared.status.Status.TheVariants as s
@@ -17,7 +18,7 @@ status_of (f.Refused refusal) = s.Refused
 status_of f.Write = s.WriteFault
 
 abbrev pub refusal_text : Refusal → List ℕ
-refusal_text r.Walk = codes "refused"
+refusal_text (r.Walk fault) = words_of fault
 refusal_text r.Long = codes "document long"
 refusal_text r.ProgramLimit = codes "document limit program"
 refusal_text (r.Lex place) = codes "program lex " ++ decimal place

@@ -30,10 +30,6 @@ abbrev pub Fails : Failure → End → End → Status → Type 0
 Fails (f.Refused refusal) err said status = Says err said (Err (f.Refused refusal)) status ⊎ Says err said (Err f.Memory) status
 Fails failure err said status = Says err said (Err failure) status
 
--- a failure that reading a document has
-abbrev pub IsOfInput : Failure → Type 0
-IsOfInput failure = (failure ≡ f.Memory) ⊎ (failure ≡ f.Refused r.Walk)
-
 -- a failure that reading the text of a program has
 abbrev pub IsOfProgram : List ℕ → Failure → Type 0
 IsOfProgram text f.Memory = Unit {0}

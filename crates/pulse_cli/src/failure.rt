@@ -1,6 +1,6 @@
 // How a command fails, and what it then says.
 
-ghost use Rattle.std.specs.Prelude.{◌≡◌, ◌⊎◌, Some, IfOk};
+ghost use Rattle.std.specs.Prelude.{◌≡◌, ◌⊎◌, IfOk};
 ghost use Rattle.std.specs.String.{string_bytes};
 ghost use Rattle.pulse_cli.specs.declared.failure.Failure.TheVariants as f;
 ghost use Rattle.pulse_cli.specs.Lines.{line_of, refusal_text};
@@ -8,16 +8,16 @@ ghost use Rattle.pulse_cli.specs.Steps.{Fails};
 ghost use Rattle.pulse_cli.specs.Ending.{seen, SaysLine};
 
 use code_image::ImageFault;
+use flat_walk::WalkFault;
 use iter_check::CheckKind;
-use pulse_base::{Memory, Sink, Status, write_all};
-use std::alloc::{AllocError, Global};
-use std::fmt;
+use pulse_base::{Bytes, Memory, Sink, Status, write_all};
+use std::alloc::Global;
 
-/// Why an input is refused. `Display` gives the line, without its `pulse: `; places are byte offsets in the text.
-#[derive(Clone, Copy, Debug, PartialEq, Eq)]
+/// Why an input is refused. Places are byte offsets in the text.
+#[derive(Debug, Drop)]
 pub(crate) enum Refusal {
-    /// It is no document of a small walk.
-    Walk,
+    /// The document has no report of a walk. The fault is never want of memory.
+    Walk(WalkFault),
     /// The input has more than 67,108,864 bytes.
     Long,
     /// The text of a program has more than 65,536 bytes.
@@ -34,25 +34,8 @@ pub(crate) enum Refusal {
     Image(ImageFault),
 }
 
-impl fmt::Display for Refusal {
-    ghost output = { λ refusal. Some (refusal_text refusal) };
-
-    fn fmt<W: fmt::Write>(&self, f: &mut fmt::Formatter<W>) -> fmt::Result {
-        match self {
-            Refusal::Walk => f.write_str("refused"),
-            Refusal::Long => f.write_str("document long"),
-            Refusal::ProgramLimit => f.write_str("document limit program"),
-            Refusal::Lex(at) => write!(f, "program lex {at}"),
-            Refusal::Deep(at) => write!(f, "program deep {at}"),
-            Refusal::Syntax(at) => write!(f, "program syntax {at}"),
-            Refusal::Check { kind, place } => write!(f, "program {kind} {place}"),
-            Refusal::Image(fault) => write!(f, "{fault}"),
-        }
-    }
-}
-
 /// Why a command gave no output.
-#[derive(Clone, Copy, Debug, PartialEq, Eq)]
+#[derive(Debug, Drop)]
 pub(crate) enum Failure {
     /// The words are no command.
     Usage,
@@ -76,11 +59,38 @@ impl From<Memory> for Failure {
 
 impl Refusal {
     // Its line on err.
-    fn line(self, alloc: Global) -> Result<String, AllocError>
-        ensures { IfOk result (λ line. string_bytes line ≡ line_of (Failure.Refused self)) }
+    fn line(&self, alloc: Global) -> Result<Bytes, Memory>
+        ensures { IfOk result (λ line. line ≡ line_of (Failure.Refused self.now)) }
     {
-        format!(in alloc; "pulse: {self}\n")
+        let words = self.words(alloc)?;
+        let mut line = Bytes::from_slice(alloc, b"pulse: ")?;
+        line.append(words.as_slice())?;
+        line.append(b"\n")?;
+        Ok(line)
     }
+
+    fn words(&self, alloc: Global) -> Result<Bytes, Memory>
+        ensures { IfOk result (λ words. words ≡ refusal_text self.now) }
+    {
+        match self {
+            Refusal::Walk(fault) => fault.words(alloc),
+            Refusal::Long => Bytes::from_slice(alloc, b"document long"),
+            Refusal::ProgramLimit => Bytes::from_slice(alloc, b"document limit program"),
+            Refusal::Lex(at) => Ok(bytes_of(format!(in alloc; "program lex {at}")?)),
+            Refusal::Deep(at) => Ok(bytes_of(format!(in alloc; "program deep {at}")?)),
+            Refusal::Syntax(at) => Ok(bytes_of(format!(in alloc; "program syntax {at}")?)),
+            Refusal::Check { kind, place } => {
+                Ok(bytes_of(format!(in alloc; "program {kind} {place}")?))
+            }
+            Refusal::Image(fault) => Ok(bytes_of(format!(in alloc; "{fault}")?)),
+        }
+    }
+}
+
+fn bytes_of(text: String) -> Bytes
+    ensures { result ≡ string_bytes text }
+{
+    Bytes::from_vec(text.into_bytes())
 }
 
 /// Says a failure on `err`, and answers its status; a failed write makes that `WriteFault`. Where memory runs out for
@@ -101,7 +111,7 @@ fn refuse<E: Sink>(alloc: Global, err: &mut E, refusal: Refusal) -> Status
     ensures { Fails (Failure.Refused refusal) (seen (E.taken err.old) (E.faults err.old)) (seen (E.taken err.new) (E.faults err.new)) result }
 {
     match refusal.line(alloc) {
-        Ok(line) => say(err, line.as_bytes(), Status::Refused),
+        Ok(line) => say(err, line.as_slice(), Status::Refused),
         Err(_) => say(err, b"pulse: memory\n", Status::Memory),
     }
 }

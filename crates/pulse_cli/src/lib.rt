@@ -12,13 +12,10 @@ mod command;
 mod document;
 mod failure;
 mod images;
-mod keys;
 mod program;
-mod report;
 #[cfg(test)]
 mod tests;
 mod top;
-mod walk;
 
 pub use absent::{AbsentKids, AbsentNet};
 pub use top::{MOST_INPUT, pulse};

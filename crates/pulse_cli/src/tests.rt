@@ -269,58 +269,111 @@ fn says_why_it_fails(rt: HostRuntime) -> Result<(), Fail> {
     Ok(())
 }
 
-// A text of the document, and what stands in its place.
-const REFUSED: [(&str, &str); 23] = [
-    ("base = 4096", "base = 4096\nshow = true"),
-    ("base = 4096", "base = -1"),
-    ("base = 4096", "base = 281474976710656"),
-    ("base = 4096", "base = 281474976710655"),
-    ("base = 4096", "base = '4096'"),
-    ("base = 4096\n", ""),
-    ("[[region]]", "[region]"),
+// A text of the document, what stands in its place, and why the document is then refused.
+const REFUSED: [(&str, &str, &str); 22] = [
+    ("base = 4096", "base = -1", "document value region.0.base"),
+    (
+        "base = 4096",
+        "base = 281474976710656",
+        "document value region.0.base",
+    ),
+    (
+        "base = 4096",
+        "base = 281474976710655",
+        "document region 0 range",
+    ),
+    (
+        "base = 4096",
+        "base = '4096'",
+        "document value region.0.base",
+    ),
+    ("base = 4096\n", "", "document missing region.0.base"),
+    ("[[region]]", "[region]", "document value region"),
     (
         "[[request]]",
         "[[region]]\nbase = 1\nhex = '00'\n[[request]]",
+        "document limit walk",
     ),
-    ("[[request]]", "[[request]]\niter = 'find'\n[[request]]"),
-    ("[[region]]", "budget = 0\n[[region]]"),
-    ("[[region]]", "budget = 65535\nrounds = 17\n[[region]]"),
-    ("[[region]]", "rounds = 1001\n[[region]]"),
-    ("[[region]]", "events = []\n[[region]]"),
-    ("hex = \"0", "hex = \""),
-    ("hex = \"0", "hex = \"g"),
-    ("iter = \"find\"", "iter = \"bump\""),
-    ("iter = \"find\"\n", ""),
-    ("args = [4096, 30]", "args = [4096]"),
-    ("args = [4096, 30]", "args = [4096, -1]"),
-    ("args = [4096, 30]", "args = [4096, '18446744073709551616']"),
-    ("args = [4096, 30]", "args = [4096, '+1']"),
-    ("next { go cur.next; }", "next { go cur.key; }"),
-    ("pad.got = cur.val", "pad.gone = cur.val"),
+    (
+        "[[request]]",
+        "[[request]]\niter = 'find'\n[[request]]",
+        "document args 0",
+    ),
+    (
+        "[[region]]",
+        "budget = 0\n[[region]]",
+        "document value budget",
+    ),
+    (
+        "[[region]]",
+        "budget = 65535\nrounds = 17\n[[region]]",
+        "document limit work",
+    ),
+    (
+        "[[region]]",
+        "rounds = 1001\n[[region]]",
+        "document value rounds",
+    ),
+    (
+        "[[region]]",
+        "events = []\n[[region]]",
+        "document limit walk",
+    ),
+    ("hex = \"0", "hex = \"", "document hex 0"),
+    ("hex = \"0", "hex = \"g", "document hex 0"),
+    ("iter = \"find\"", "iter = \"bump\"", "document iter 0"),
+    ("iter = \"find\"\n", "", "document missing request.0.iter"),
+    ("args = [4096, 30]", "args = [4096]", "document args 0"),
+    (
+        "args = [4096, 30]",
+        "args = [4096, -1]",
+        "document value request.0.args",
+    ),
+    (
+        "args = [4096, 30]",
+        "args = [4096, '18446744073709551616']",
+        "document value request.0.args",
+    ),
+    (
+        "args = [4096, 30]",
+        "args = [4096, '+1']",
+        "document value request.0.args",
+    ),
+    (
+        "next { go cur.next; }",
+        "next { go cur.key; }",
+        "program type 266",
+    ),
+    (
+        "pad.got = cur.val",
+        "pad.gone = cur.val",
+        "program name 193",
+    ),
 ];
 
 #[test]
-fn refuses_what_is_no_small_document(rt: HostRuntime) -> Result<(), Fail> {
+fn refuses_documents(rt: HostRuntime) -> Result<(), Fail> {
     let whole = document(rt.alloc(), PROGRAM, &WALKS[FIRST_WALK])?;
-    for (old, new) in REFUSED {
+    for (old, new, line) in REFUSED {
         let changed = replaced(rt.alloc(), whole.as_str(), old, new)?;
-        refuses(&rt, changed.as_bytes(), new)?;
+        refuses(&rt, changed.as_bytes(), line)?;
     }
-    refuses(&rt, b"", "no bytes")?;
-    refuses(&rt, b"program = '\xff'", "no text")?;
-    refuses(&rt, b"\0\0\0\0", "zeros")?;
+    refuses(&rt, b"", "document missing program")?;
+    refuses(&rt, b"program = '\xff'", "document toml")?;
+    refuses(&rt, b"\0\0\0\0", "document toml")?;
     Ok(())
 }
 
 fn refuses<R: std::process::Abort + AllocGlobal>(
     rt: &R,
     document: &[u8],
-    name: &str,
+    line: &str,
 ) -> Result<(), Fail> {
     let ran = run(rt.alloc(), &["walk"], document, 1000, NONE)?;
-    assert_eq!(rt; ran.status, Status::Refused, "{name}");
-    assert_eq!(rt; ran.out.taken(), b"".as_slice(), "{name}");
-    assert_eq!(rt; ran.err.taken(), b"pulse: refused\n".as_slice(), "{name}");
+    let line = format!(in rt.alloc(); "pulse: {line}\n")?;
+    assert_eq!(rt; ran.err.taken(), line.as_bytes(), "{line}");
+    assert_eq!(rt; ran.status, Status::Refused, "{line}");
+    assert_eq!(rt; ran.out.taken(), b"".as_slice(), "{line}");
     Ok(())
 }
 

@@ -7,12 +7,10 @@ ghost use Rattle.pulse_cli.specs.Steps.{ReadsInput, Answered};
 ghost use Rattle.pulse_cli.specs.Words.{IsSomeCommand};
 
 use crate::command::{Command, read_words};
-use crate::document::read;
+use crate::document::walk_document;
 use crate::failure::{Failure, Refusal, fail};
 use crate::images::{list, verify};
 use crate::program::{format, lay_out};
-use crate::report::report;
-use crate::walk::walk;
 use pulse_base::{Bytes, Link, ReadAll, Sink, Source, Spawner, Status, read_all, write_all};
 use std::alloc::Global;
 
@@ -90,18 +88,5 @@ fn answer(alloc: Global, command: &Command, text: &[u8]) -> Result<Bytes, Failur
         Command::Format => format(alloc, text),
         Command::List => list(alloc, text),
         Command::Verify => verify(alloc, text),
-    }
-}
-
-// The report of the walk that a document asks for.
-fn walk_document(alloc: Global, text: &[u8]) -> Result<Bytes, Failure>
-    ensures { Answered Command.Walk text.now result }
-{
-    let mut plan = read(alloc, text)?;
-    let image = plan.built.image(plan.iter);
-    let walked = walk(image, plan.args.as_slice(), &mut plan.region, plan.limit);
-    match report(alloc, &walked, plan.region.bytes.as_slice()) {
-        Ok(text) => Ok(Bytes::from_vec(text.into_bytes())),
-        Err(_) => Err(Failure::Memory),
     }
 }

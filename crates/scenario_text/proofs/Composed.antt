@@ -1,6 +1,6 @@
 -- The answer of a whole document from those of its parts.
 use Rattle.std.proofs.Common.{◌≡◌, ℕ, List, [], ◌∷◌, Option, Some, None, refl}
-use Rattle.std.specs.Prelude.{◌≢◌, Result, Ok, Err, IfErr, IfOk}
+use Rattle.std.specs.Prelude.{Result, Ok, Err, IfErr}
 use Rattle.toml.specs.Data.{Members}
 use Rattle.iter_syntax.specs.declared.tree.Program.{Program}
 use Rattle.iter_syntax.specs.Parsed.{IsProgramOf}
@@ -11,10 +11,10 @@ use Rattle.scenario_text.specs.Events.{events_fault}
 use Rattle.scenario_text.specs.Form.{count, each, first_there, form_fault}
 use Rattle.scenario_text.specs.OfProgram.{iter_fault, program_fault, rest_fault, spans_fault}
 use Rattle.scenario_text.specs.Regions.{spans}
-use Rattle.scenario_text.specs.Scenario.{HasCause, IsFaultOf, of_form, of_text, of_program, IsTableOf, ReadAnswer}
+use Rattle.scenario_text.specs.Scenario.{HasCause, of_form, of_text, of_program, IsTableOf, ReadAnswer}
 use Rattle.scenario_text.specs.Steps.{Gives, ProgramAnswer, TableAnswer}
 use Rattle.scenario_text.specs.Values.{events_of, nodes_of, program_of, regions_of, requests_of}
-use Rattle.scenario_text.proofs.Told.{IsCaused, caused}
+use Rattle.scenario_text.proofs.Told.{caused}
 
 pub form_answer : {A : Type 0} (ms : Members) (x : A) (f : DocFault) → Gives (form_fault ms) x (Err f) → TableAnswer ms (Err f)
 form_answer ms x fault.Memory h = tt

@@ -1,5 +1,5 @@
 -- A map's keys ascend, so the first of them that is none of the known keys is the first such key in byte order.
-use Rattle.std.proofs.Common.{◌≡◌, Bool, true, false, not, ℕ, List, [], ◌∷◌, map, filter, Option, Some, None, Ordering, Less, Equal, Greater, String, Global, string_bytes, nat_cmp, if◌then◌else◌, refl, ap, sym, ◌∙◌}
+use Rattle.std.proofs.Common.{◌≡◌, Bool, true, false, not, ℕ, List, [], ◌∷◌, map, filter, Option, Some, None, Less, String, Global, string_bytes, nat_cmp, if◌then◌else◌, refl, ap, sym}
 use Rattle.std.specs.Cmp.Lexicographic.{slice_cmp}
 use Rattle.std.specs.List.{AllByRecursion}
 use Rattle.std.specs.List.Sorted.{IsStrictlySortedBy}

@@ -1,9 +1,8 @@
 -- What the entries of a list give, where no check of them fails.
-use Rattle.std.proofs.Common.{◌≡◌, ◌≤◌, ◌<◌, ◌+◌, ℕ, zero, suc, Bool, true, false, not, ◌&&◌, List, [], ◌∷◌, length, Option, Some, None, is_some, option_map, arith, refl, ap, sym, ◌∙◌, add-zero, zero-add}
+use Rattle.std.proofs.Common.{◌≡◌, ◌+◌, ℕ, zero, suc, Bool, true, List, length, Option, Some, None, is_some, option_map, arith, refl, ap, sym, ◌∙◌, add-zero}
 use Rattle.std.proofs.lemmas.Bool.{and_parts}
 use Rattle.std.proofs.lemmas.List.Elements.{All-nil, All-cons}
 use Rattle.std.specs.Prelude.{All, option_and_then, slice_get}
-use Rattle.std.specs.Option.{option_or}
 use Rattle.toml.specs.Data.{Data, Items, no_items, item, Members, as_table}
 use Rattle.scenario_text.specs.declared.fault.DocFault.{DocFault}
 use Rattle.scenario_text.specs.declared.kind.Entry.TheVariants as entry

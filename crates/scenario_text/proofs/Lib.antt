@@ -7,3 +7,4 @@ pub mod ProgramLimits
 pub mod Runnable
 pub mod Told
 pub mod Composed
+pub mod OneAnswer

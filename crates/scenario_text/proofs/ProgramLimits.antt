@@ -7,13 +7,12 @@ use Rattle.iter_syntax.specs.declared.tree.Word.{Word}
 use Rattle.iter_syntax.specs.declared.tree.RecordDecl.{RecordDecl}
 use Rattle.iter_syntax.specs.declared.tree.Iter.{Iter}
 use Rattle.iter_syntax.specs.declared.tree.Program.{Program}
-use Rattle.iter_syntax.specs.Tree.{block}
 use Rattle.iter_check.specs.declared.kind.CheckKind.{CheckKind}
 use Rattle.iter_check.specs.declared.kind.CheckKind.TheVariants as k
 use Rattle.iter_check.specs.declared.kind.Fault.{Fault}
 use Rattle.iter_check.specs.declared.sort.Part.TheVariants as part
 use Rattle.iter_check.specs.Faults.{fault, in_order, put, before}
-use Rattle.iter_check.specs.FaultList.{fault_list, first_group, code_faults, index_faults, or_later, names_faults, twice, one_more, at_word, head_faults, ending_faults, block_faults, fields_faults, iter_faults, record_faults, record_for, ground, with_args}
+use Rattle.iter_check.specs.FaultList.{fault_list, first_group, code_faults, index_faults, or_later, names_faults, twice, one_more, head_faults, ending_faults, block_faults, fields_faults, iter_faults, record_faults, record_for, ground, with_args}
 use Rattle.scenario_text.specs.OfProgram.{arg_count}
 
 front_nil : (xs ys : List Fault) → xs ++ ys ≡ [] → xs ≡ []

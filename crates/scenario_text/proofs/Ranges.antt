@@ -1,12 +1,10 @@
 -- What a table without fault says of its numbers: each is in the range of its key.
-use Rattle.std.proofs.Common.{◌≡◌, ◌≤◌, ◌-◌, ◌++◌, ℕ, Bool, true, false, not, ◌&&◌, nat_le, pos, negsuc, List, [], ◌∷◌, Option, Some, None, option_map, arith, refl}
-use Rattle.std.proofs.lemmas.Bool.{false≢true}
+use Rattle.std.proofs.Common.{◌≡◌, ◌≤◌, ◌-◌, ◌++◌, ℕ, Bool, true, false, pos, negsuc, List, [], ◌∷◌, Option, Some, None, option_map, arith, refl}
 use Rattle.std.proofs.lemmas.Bool.Decides.{nat_tests}
 use Rattle.std.specs.Prelude.{unwrap_or, if◌then◌else◌, find, codes, option_and_then, nat_abs}
 use Rattle.std.specs.Option.{option_or}
 use Rattle.toml.specs.Data.{Data, integer, string, float, boolean, datetime, array, table, as_integer, Members, get_member}
 use Rattle.scenario_text.specs.declared.kind.Kind.TheVariants.{Whole}
-use Rattle.scenario_text.specs.declared.fault.DocFault.{DocFault}
 use Rattle.scenario_text.specs.declared.fault.DocFault.TheVariants as fault
 use Rattle.scenario_text.specs.Keys.{Key, is_bad, first_bad, first_missing, first_unknown, keys_fault, top_keys, region_keys, request_keys}
 use Rattle.scenario_text.specs.Values.{nodes_of, slots_of, budget_of, rounds_of, tries_of, clients_of, port_of, node_of, client_of, region_zeros}

@@ -1,5 +1,5 @@
 -- A document of which no check fails is runnable.
-use Rattle.std.proofs.Common.{◌≡◌, ◌≤◌, ◌<◌, ◌+◌, ◌*◌, ◌-◌, ◌++◌, ℕ, suc, Bool, true, false, not, ◌&&◌, nat_lt, nat_le, nat_eq, List, [], ◌∷◌, length, replicate, map, Option, Some, None, is_some, option_map, arith, refl, ap, sym, subst, ◌∙◌, length-append, if◌then◌else◌}
+use Rattle.std.proofs.Common.{◌≡◌, ◌≤◌, ◌<◌, ◌+◌, ◌*◌, ℕ, suc, Bool, true, false, not, nat_lt, nat_le, nat_eq, List, [], ◌∷◌, length, replicate, map, Option, Some, None, option_map, arith, refl, ap, sym, subst, ◌∙◌, length-append, if◌then◌else◌}
 use Rattle.std.proofs.lemmas.Bool.{leb-true}
 use Rattle.std.proofs.lemmas.Bool.Decides.{nat_tests}
 use Rattle.std.proofs.lemmas.List.{length-replicate}
@@ -14,7 +14,6 @@ use Rattle.iter_syntax.specs.declared.tree.Program.{Program}
 use Rattle.iter_check.specs.FaultList.{fault_list}
 use Rattle.pulse_base.specs.declared.event.Event.{Event}
 use Rattle.pulse_base.specs.declared.event.Event.TheVariants.{Ask, Tick, Deliver, Turn}
-use Rattle.pulse_base.specs.declared.plan.RequestPlan.{RequestPlan}
 use Rattle.range_table.specs.Table.{IsTable}
 use Rattle.scenario_text.specs.declared.fault.DocFault.{DocFault}
 use Rattle.scenario_text.specs.declared.kind.Entry.{Entry}
@@ -23,7 +22,7 @@ use Rattle.scenario_text.specs.declared.kind.Kind.TheVariants.{List as ListOf}
 use Rattle.scenario_text.specs.declared.plan.PlanRegion.{PlanRegion}
 use Rattle.scenario_text.specs.Accepted.{IsEventOf, AreRegions, AreRequests, IsRunnable}
 use Rattle.scenario_text.specs.Events.{event_of, events_fault, number_after}
-use Rattle.scenario_text.specs.Form.{count, each, first_there, form_fault, hex_fault, limit, lists_fault, prefix_of, region_fault, regions_fault, request_fault, size_of, sizes, work_of}
+use Rattle.scenario_text.specs.Form.{count, each, form_fault, hex_fault, limit, lists_fault, prefix_of, region_fault, regions_fault, request_fault, size_of, sizes, work_of}
 use Rattle.scenario_text.specs.Keys.{is_bad, keys_fault, region_keys, request_keys, top_keys}
 use Rattle.scenario_text.specs.Kinds.{all_items, is_entry}
 use Rattle.scenario_text.specs.Numbers.{argument_of, below}
@@ -31,7 +30,7 @@ use Rattle.scenario_text.specs.OfProgram.{arg_count, args_fault, iter_fault, ite
 use Rattle.scenario_text.specs.Plan.{plan_args, plan_of, plan_request, plan_requests}
 use Rattle.scenario_text.specs.Regions.{gather, plan_events, plan_region, plan_regions, spans, with_first}
 use Rattle.scenario_text.specs.Steps.{AreSmallClients, IsSmallClient}
-use Rattle.scenario_text.specs.Values.{args_of, budget_of, clients_of, client_of, events_of, iter_name_of, node_of, nodes_of, or_nothing, region_hex, region_size, region_zeros, regions_of, requests_of, rounds_of}
+use Rattle.scenario_text.specs.Values.{args_of, budget_of, clients_of, events_of, iter_name_of, node_of, nodes_of, or_nothing, region_hex, region_size, region_zeros, regions_of, requests_of, rounds_of}
 use Rattle.scenario_text.proofs.Gathered.{all_given, given, length_gathered, length_given, number_given}
 use Rattle.scenario_text.proofs.Limits.{ListLimits, kept, list_limits, none_there}
 use Rattle.scenario_text.proofs.Ranges.{TopRanges, client_in_range, no_bad, node_in_range, none_or, top_ranges}

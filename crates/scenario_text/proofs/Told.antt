@@ -26,7 +26,7 @@ use Rattle.scenario_text.specs.OfProgram.{arg_count, args_fault, check_fault, it
 use Rattle.scenario_text.specs.Regions.{spans}
 use Rattle.scenario_text.specs.Scenario.{HasCause, IsFaultOf, of_form, of_text, of_program}
 use Rattle.scenario_text.specs.Values.{args_of, clients_of, events_of, iter_name_of, nodes_of, program_of, region_hex, regions_of, requests_of}
-use Rattle.scenario_text.proofs.Runnable.{FormFacts, few_spans, form_facts}
+use Rattle.scenario_text.proofs.Runnable.{few_spans, form_facts}
 
 -- neither that the text or its program's text is none, nor want of memory, nor a table of too many regions
 abbrev pub IsTold : DocFault → Type 0

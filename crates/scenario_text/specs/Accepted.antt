@@ -1,11 +1,10 @@
 -- What an accepted document is held to: what the crates that run it ask for.
-use Rattle.std.specs.Prelude.{◌≡◌, ℕ, ◌+◌, ◌*◌, ◌<◌, ◌≤◌, List, [], length, map, sum_by, slice_get, Option, Some, All}
+use Rattle.std.specs.Prelude.{◌≡◌, ℕ, ◌*◌, ◌<◌, ◌≤◌, List, [], length, map, sum_by, slice_get, Some, All}
 use Rattle.iter_check.specs.FaultList.{fault_list}
 use Rattle.pulse_base.specs.declared.event.Event.{Event}
 use Rattle.pulse_base.specs.declared.event.Event.TheVariants.{Ask, Tick, Deliver, Turn}
 use Rattle.pulse_base.specs.declared.plan.RequestPlan.{RequestPlan}
 use Rattle.range_table.specs.Table.{IsTable}
-use Rattle.scenario_text.specs.declared.plan.Plan.{Plan}
 use Rattle.scenario_text.specs.declared.plan.PlanRegion.{PlanRegion}
 use Rattle.scenario_text.specs.declared.scenario.Scenario.{Scenario}
 use Rattle.scenario_text.specs.OfProgram.{arg_count}

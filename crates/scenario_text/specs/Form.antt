@@ -1,5 +1,5 @@
 -- The checks of a document that need no program, in their order.
-use Rattle.std.specs.Prelude.{ℕ, suc, ◌+◌, ◌*◌, Bool, true, false, ◌&&◌, List, [], ◌∷◌, ◌++◌, length, Result, Ok, Err, Option, Some, None, option_and_then, nat_le, codes, decimal, if◌then◌else◌}
+use Rattle.std.specs.Prelude.{ℕ, suc, ◌+◌, ◌*◌, Bool, ◌&&◌, List, [], ◌∷◌, ◌++◌, length, Result, Ok, Err, Option, Some, None, option_and_then, nat_le, codes, decimal, if◌then◌else◌}
 use Rattle.std.specs.Option.{option_or}
 use Rattle.hex.specs.declared.error.FromHexError.{FromHexError}
 use Rattle.toml.specs.Data.{Items, no_items, item, Members, as_table}

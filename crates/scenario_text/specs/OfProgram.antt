@@ -1,5 +1,5 @@
 -- The checks of a document that need its program, in their order.
-use Rattle.std.specs.Prelude.{ℕ, ◌+◌, List, [], ◌∷◌, length, map, position, slice_get, bytes_eq, nat_eq, Option, Some, None, option_map, option_and_then, if◌then◌else◌}
+use Rattle.std.specs.Prelude.{ℕ, List, [], ◌∷◌, length, position, slice_get, bytes_eq, nat_eq, Option, Some, None, option_map, option_and_then, if◌then◌else◌}
 use Rattle.toml.specs.Data.{Members}
 use Rattle.iter_syntax.specs.declared.tree.Program.{Program}
 use Rattle.iter_check.specs.declared.kind.Fault.{Fault}

@@ -1,5 +1,5 @@
 -- The plan that a document's table gives, beside its program.
-use Rattle.std.specs.Prelude.{ℕ, List, Option, option_map, unwrap_or, codes}
+use Rattle.std.specs.Prelude.{ℕ, List, option_map, unwrap_or}
 use Rattle.toml.specs.Data.{Items, Members, as_table}
 use Rattle.iter_syntax.specs.declared.tree.Program.{Program}
 use Rattle.pulse_base.specs.declared.plan.RequestPlan.{RequestPlan}

@@ -1,5 +1,5 @@
 -- The scenario of a document, or its first failing check.
-use Rattle.std.specs.Prelude.{◌≡◌, ◌≢◌, ◌⊎◌, ℕ, List, Option, Some, None, Result, Ok, Err, IsUtf8}
+use Rattle.std.specs.Prelude.{◌≡◌, ◌≢◌, ◌⊎◌, ℕ, List, Some, None, Result, Ok, Err, IsUtf8}
 use Rattle.toml.specs.Data.{Members}
 use Rattle.toml.specs.Parse.{parse_document}
 use Rattle.iter_syntax.specs.declared.tree.Program.{Program}
@@ -46,3 +46,8 @@ abbrev pub HasCause : DocFault → Type 0
 HasCause (fault.Program syntax.Memory) = ⊥
 HasCause (fault.Region i table.TooMany) = ⊥
 HasCause f = Unit {0}
+
+-- want of memory aside, a text has one answer
+abbrev pub HasOneAnswer : List ℕ → Type 0
+HasOneAnswer text =
+    (a b : Result Scenario DocFault) → ReadAnswer text a → ReadAnswer text b → (a ≡ Err fault.Memory) ⊎ (b ≡ Err fault.Memory) ⊎ (a ≡ b)

@@ -1,8 +1,8 @@
 -- The values at the keys of a document's tables, with their defaults.
-use Rattle.std.specs.Prelude.{ℕ, ◌+◌, ◌*◌, Bool, true, false, List, [], ◌∷◌, ◌++◌, length, replicate, Result, Ok, Err, Option, Some, None, option_map, option_and_then, unwrap_or, nat_abs, nat_le, codes, is_some}
+use Rattle.std.specs.Prelude.{ℕ, ◌+◌, Bool, false, List, [], ◌++◌, length, replicate, Result, Ok, Err, option_map, option_and_then, unwrap_or, nat_abs, nat_le, codes, is_some}
 use Rattle.hex.specs.Hex.{decode_of}
 use Rattle.hex.specs.declared.error.FromHexError.{FromHexError}
-use Rattle.toml.specs.Data.{Data, Items, no_items, item, Members, as_str, as_bool, as_integer, as_array, as_table, get_member}
+use Rattle.toml.specs.Data.{Items, no_items, Members, as_str, as_bool, as_integer, as_array, get_member}
 
 -- the value at a key, or the default where it is absent; of another kind it is the default too
 abbrev pub text_at : List ℕ → Members → List ℕ

@@ -25,6 +25,8 @@ mod request;
 mod rest;
 mod scenario;
 mod table;
+#[cfg(test)]
+mod tests;
 mod value;
 mod words;
 

@@ -2,7 +2,7 @@
 
 ghost use Rattle.std.specs.Prelude.{IfErr, IfOk};
 ghost use Rattle.scenario_text.specs.Accepted.{IsRunnable};
-ghost use Rattle.scenario_text.specs.Scenario.{HasCause, ReadAnswer};
+ghost use Rattle.scenario_text.specs.Scenario.{HasCause, HasOneAnswer, ReadAnswer};
 ghost use Rattle.toml.specs.View.{table_view};
 ghost use Rattle.scenario_text.specs.Steps.{TableAnswer};
 
@@ -45,6 +45,7 @@ fn read_table(alloc: Global, table: &Table) -> Result<Scenario, DocFault>
 /// The scenario of a document, or its first failing check. The work and the memory grow with the text.
 pub fn read(alloc: Global, text: &[u8]) -> Result<Scenario, DocFault>
     ensures answer { ReadAnswer text.now result }
+    ensures one_answer { HasOneAnswer text.now }
     ensures runnable { IfOk result IsRunnable }
     ensures cause { IfErr result HasCause }
 {

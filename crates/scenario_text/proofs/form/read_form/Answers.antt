@@ -1,4 +1,4 @@
-use Rattle.std.proofs.Common.{◌≤◌, rules, arith, ◌∙◌}
+use Rattle.std.proofs.Common.{arith}
 use Rattle.toml.specs.View.{table_view}
 use Rattle.scenario_text.proofs.Ranges.{TopRanges, top_ranges}
 use Rattle.scenario_text.proofs.form.read_form.Goals as goal

@@ -1,4 +1,4 @@
-use Rattle.std.proofs.Common.{◌≡◌, ℕ, List, Err, arith, sym, subst, ◌∙◌}
+use Rattle.std.proofs.Common.{◌≡◌, ℕ, List, Err, sym, subst, ◌∙◌}
 use Rattle.iter_syntax.specs.Parsed.{IsProgramOf}
 use Rattle.toml.specs.View.{table_view}
 use Rattle.scenario_text.specs.declared.plan.Plan.{Plan}

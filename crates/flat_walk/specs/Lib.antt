@@ -1,0 +1,6 @@
+pub mod Form
+pub mod Report
+pub mod Laws
+pub mod Answer
+pub mod Lines
+pub mod inner
