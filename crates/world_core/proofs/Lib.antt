@@ -1,0 +1,11 @@
+pub mod Notes
+pub mod OneNode
+pub mod OneClient
+pub mod Scenes
+pub mod Accepts
+pub mod Switched
+pub mod Asking
+pub mod Lastings
+pub mod Turning
+pub mod Iterating
+pub mod Runs

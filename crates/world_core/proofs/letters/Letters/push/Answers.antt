@@ -1,0 +1,18 @@
+use Rattle.std.proofs.Common.{rules, [], ◌∷◌, ◌++◌, sym, ap, ◌∙◌, subst}
+use Rattle.frame_codec.specs.Spelling.{Spells}
+use Rattle.world_core.specs.Letters.{LettersState, frame_of}
+use Rattle.world_core.proofs.Notes.{Pushed, pushed}
+use Rattle.world_core.proofs.letters.Letters.push.Goals as goal
+
+pushes : (c : goal.In-Ok-push) → Pushed c.args.to c.args.content.now c.self.inside.bytes.items c.extend_from_slice.new.self.items c.self.inside.notes.items c.push.new.self.items
+pushes c =
+    let spells : Spells c.as_slice.result.now (frame_of c.args.content.now) =
+    subst (λ b. Spells b (frame_of c.args.content.now)) (sym c.as_slice.ensures.value) (subst (Spells c.encode.result.items) c.frame_of.ensures c.encode.ensures) in
+    pushed c.args.to c.args.content.now c.self.inside.bytes.items c.extend_from_slice.new.self.items c.as_slice.result.now c.self.inside.notes.items c.push.new.self.items
+    c.len-start.result c.len-end.result c.pad_len.result c.note_of-note.result c.in-Ok.ensures.items spells (search rules) (search rules) c.pad_len.ensures c.note_of-note.ensures c.in-Ok-push.ensures.items c.self.invariant
+
+pub invariant_of-self : goal.invariant_of-self
+invariant_of-self c = (pushes c).notes
+
+pub returns : goal.returns
+returns c = (pushes c).letters ∙ ap (λ (s : LettersState). s.sent ++ record { to = c.args.to; content = c.args.content.now } ∷ []) c.self.view_is

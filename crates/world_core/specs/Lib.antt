@@ -1,0 +1,5 @@
+pub mod Letters
+pub mod Scene
+pub mod Turns
+pub mod Runs
+pub mod inner

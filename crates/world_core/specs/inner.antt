@@ -1,0 +1,6 @@
+pub mod Notes
+pub mod Nodes
+pub mod Clients
+pub mod Fits
+pub mod Sends
+pub mod Events
