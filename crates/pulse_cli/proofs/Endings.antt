@@ -1,5 +1,5 @@
 -- A failed run ends as the failure is said.
-use Rattle.std.proofs.Common.{◌≡◌, ◌≢◌, ◌⊎◌, inl, inr, ℕ, List, Err}
+use Rattle.std.proofs.Common.{◌≢◌, inl, inr, ℕ, List, Err}
 use Rattle.pulse_base.specs.declared.status.Status.{Status}
 use Rattle.pulse_base.specs.declared.status.Status.TheVariants as s
 use Rattle.pulse_cli.specs.declared.failure.Failure.{Failure}

@@ -1,5 +1,5 @@
--- A list of one word.
-use Rattle.std.proofs.Common.{◌≡◌, ◌<◌, ℕ, true, List, [], ◌∷◌, Option, Some, length, map, slice_get, get_or, zero, suc, nat_eq, ap, sym, ◌∙◌, arith, Global, String}
+-- A list of one word, and of two.
+use Rattle.std.proofs.Common.{◌≡◌, ◌<◌, ℕ, List, [], ◌∷◌, Some, length, map, slice_get, get_or, zero, suc, ap, sym, ◌∙◌, arith, Global, String}
 use Rattle.std.specs.String.{string_bytes}
 use Rattle.std.proofs.lemmas.List.{length-map}
 
@@ -16,3 +16,13 @@ one (x ∷ (y ∷ ys)) a len h = absurd (omega arith)
 
 pub one_word : (ws : List (String Global)) (a : List ℕ) → length ws ≡ 1 → slice_get (map string_bytes ws) 0 ≡ Some a → map string_bytes ws ≡ a ∷ []
 one_word ws a len h = one (map string_bytes ws) a (length-map ws string_bytes ∙ len) h
+
+two : (xs : List (List ℕ)) (a b : List ℕ) → length xs ≡ 2 → slice_get xs 0 ≡ Some a → slice_get xs 1 ≡ Some b → xs ≡ a ∷ b ∷ []
+two [] a b len h g = absurd (omega arith)
+two (x ∷ []) a b len h g = absurd (omega arith)
+two (x ∷ (y ∷ [])) a b len h g = cc
+two (x ∷ (y ∷ (z ∷ zs))) a b len h g = absurd (omega arith)
+
+pub two_words : (ws : List (String Global)) (a b : List ℕ) → length ws ≡ 2 → slice_get (map string_bytes ws) 0 ≡ Some a → slice_get (map string_bytes ws) 1 ≡ Some b
+    → map string_bytes ws ≡ a ∷ b ∷ []
+two_words ws a b len h g = two (map string_bytes ws) a b (length-map ws string_bytes ∙ len) h g

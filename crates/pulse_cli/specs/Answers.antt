@@ -1,15 +1,18 @@
 -- What each command answers to an input of at most 67,108,864 bytes: its output, or why the input is refused.
-use Rattle.std.specs.Prelude.{◌≡◌, ◌≢◌, ℕ, ◌≤◌, ◌<◌, List, [], ◌++◌, length, slice_get, codes, decimal, Result, Ok, Err, Some}
+use Rattle.std.specs.Prelude.{◌≡◌, ◌≢◌, ◌⊎◌, ℕ, ◌≤◌, ◌<◌, List, [], ◌++◌, length, slice_get, codes, decimal, position, bytes_eq, Option, Some, None, Result, Ok, Err}
 use Rattle.iter_syntax.specs.declared.fault.SyntaxFault.TheVariants as fault
+use Rattle.iter_syntax.specs.declared.tree.Iter.{Iter}
 use Rattle.iter_syntax.specs.declared.tree.Program.{Program}
 use Rattle.iter_syntax.specs.Parsed.{IsProgramOf, ParseAnswer}
 use Rattle.iter_syntax.specs.Printed.{printed}
+use Rattle.iter_check.specs.Layout as layout
 use Rattle.iter_check.specs.FaultList.{fault_list}
 use Rattle.code_image.specs.declared.fault.ImageFault.TheVariants as image
 use Rattle.code_image.specs.declared.image.Image.{Image}
 use Rattle.code_image.specs.Spelling.{Spells}
 use Rattle.code_image.specs.Checks.{Refuses}
 use Rattle.code_image.specs.Listing.{listing}
+use Rattle.pulse_codegen.specs.Compiled.{IsImageOf}
 use Rattle.layout_text.specs.Decls.{layout_text}
 use Rattle.flat_walk.specs.declared.fault.WalkFault.TheVariants as walk
 use Rattle.flat_walk.specs.Answer.{WalkAnswer}
@@ -35,6 +38,24 @@ RefusesProgram text (r.Check kind place) =
     × ((program : Program) × IsProgramOf text program × (slice_get (fault_list program) 0 ≡ Some (record { kind = kind; place = place })))
 RefusesProgram text _ = ⊥
 
+-- the number of a program's iterator of a name
+abbrev pub number_of : Program → List ℕ → Option ℕ
+number_of program name = position (λ it. bytes_eq (layout.text it.name) name) program.iters
+
+-- the bytes spell an image that means the iterator of a number, and loads no more of its record than it uses
+abbrev pub SpellsIter : Program → ℕ → List ℕ → Type 0
+SpellsIter program number bytes =
+    (it : Iter) × (image : Image) × (slice_get program.iters number ≡ Some it) × IsImageOf program it image × Spells bytes image
+
+-- the bytes spell an image that means the iterator of a name, in the accepted program of a text
+abbrev pub CompilesTo : List ℕ → List ℕ → List ℕ → Type 0
+CompilesTo text name bytes =
+    (program : Program) × (number : ℕ) × HasProgram text program × (number_of program name ≡ Some number) × SpellsIter program number bytes
+
+-- the accepted program of a text has no iterator of a name
+abbrev pub LacksIter : List ℕ → List ℕ → Type 0
+LacksIter text name = (program : Program) × HasProgram text program × (number_of program name ≡ None)
+
 -- bytes are no image
 abbrev pub RefusesImage : List ℕ → Refusal → Type 0
 RefusesImage bytes (r.Image fault) = (fault ≢ image.Memory) × Refuses bytes fault
@@ -57,6 +78,8 @@ Answers c.Check text (Ok output) = (program : Program) × HasProgram text progra
 Answers c.Check text (Err refusal) = RefusesProgram text refusal
 Answers c.Format text (Ok output) = (program : Program) × HasProgram text program × (output ≡ printed program)
 Answers c.Format text (Err refusal) = RefusesProgram text refusal
+Answers (c.Compile name) text (Ok output) = CompilesTo text name output
+Answers (c.Compile name) text (Err refusal) = RefusesProgram text refusal ⊎ ((refusal ≡ r.Iter) × LacksIter text name)
 Answers c.List bytes (Ok output) = (image : Image) × Spells bytes image × (output ≡ listing image)
 Answers c.List bytes (Err refusal) = RefusesImage bytes refusal
 Answers c.Verify bytes (Ok output) = (image : Image) × Spells bytes image × (output ≡ verified_text image)

@@ -25,6 +25,7 @@ refusal_text (r.Lex place) = codes "program lex " ++ decimal place
 refusal_text (r.Deep place) = codes "program deep " ++ decimal place
 refusal_text (r.Syntax place) = codes "program syntax " ++ decimal place
 refusal_text (r.Check kind place) = codes "program " ++ kind_word kind ++ codes " " ++ decimal place
+refusal_text r.Iter = codes "program iter"
 refusal_text (r.Image fault) = fault_text fault
 
 abbrev pub failure_text : Failure → List ℕ

@@ -3,12 +3,15 @@
 ghost use Rattle.std.specs.Prelude.{◌≡◌, ◌↔◌, ◌<◌, true, [], ◌∷◌, IsTrue, IfOk, IfErr, Some, length, slice_get, option_map, map};
 ghost use Rattle.std.specs.String.{string_bytes};
 ghost use Rattle.clap.specs.Words.{app_of, kind_of, subcommand_of, subcommand_rows_of, takes};
-ghost use Rattle.pulse_cli.specs.Words.{IsCommand, IsSomeCommand};
-ghost use Rattle.pulse_cli.specs.WordsRead.{pulse_app, command_named, command_met};
+ghost use Rattle.std.specs.List.{list_all};
+ghost use Rattle.iter_syntax.specs.Bytes.{in_word};
+ghost use Rattle.pulse_cli.specs.Words.{is_name, IsCommand, IsSomeCommand};
+ghost use Rattle.pulse_cli.specs.WordsRead.{pulse_app, compile_app, IsLineOf, second_word, command_named, command_met};
 
 use crate::failure::Failure;
 use clap::ArgMatches;
 use clap::error::ErrorKind;
+use pulse_base::{Bytes, Memory};
 use std::alloc::{AllocError, Global};
 
 /// A command, with what its words give it.
@@ -20,6 +23,8 @@ pub(crate) enum Command {
     Check,
     /// Prints a program.
     Format,
+    /// Compiles the iterator of this name.
+    Compile(Bytes),
     /// Lists an image.
     List,
     /// Verifies an image.
@@ -37,7 +42,11 @@ pub(crate) fn read_words(alloc: Global, words: &[String]) -> Result<Command, Fai
         Ok(matches) => matches,
         Err(failure) => return Err(failure),
     };
-    let command = match named(&matches) {
+    let found = match named(alloc, &matches, words) {
+        Ok(found) => found,
+        Err(_) => return Err(Failure::Memory),
+    };
+    let command = match found {
         Some(command) => command,
         None => return Err(Failure::Usage),
     };
@@ -57,6 +66,7 @@ impl Command {
             Command::Walk => is_only(words, "walk"),
             Command::Check => is_only(words, "check"),
             Command::Format => is_only(words, "format"),
+            Command::Compile(name) => is_compile(words, name.as_slice()),
             Command::List => is_only(words, "list"),
             Command::Verify => is_only(words, "verify"),
         }
@@ -68,6 +78,55 @@ fn is_only(words: &[String], only: &str) -> bool
     ensures { IsTrue result ↔ (map string_bytes words.now ≡ only.now ∷ []) }
 {
     words.len() == 1 && is_word(words, 0, only.as_bytes())
+}
+
+// Whether there are two words, `compile` and this name, and it has the form of one.
+fn is_compile(words: &[String], name: &[u8]) -> bool
+    ensures { IsTrue result ↔ IsCommand (map string_bytes words.now) (Command.Compile name.now) }
+{
+    are_both(words, b"compile", name) && is_name(name)
+}
+
+// Whether there are two words, and they are these.
+fn are_both(words: &[String], first: &[u8], second: &[u8]) -> bool
+    ensures { IsTrue result ↔ (map string_bytes words.now ≡ first.now ∷ second.now ∷ []) }
+{
+    words.len() == 2 && are_these(words, first, second)
+}
+
+// Whether two words are these.
+fn are_these(words: &[String], first: &[u8], second: &[u8]) -> bool
+    requires two { length words.now ≡ 2 }
+    ensures { IsTrue result ↔ (map string_bytes words.now ≡ first.now ∷ second.now ∷ []) }
+{
+    is_word(words, 0, first) && is_word(words, 1, second)
+}
+
+// Whether a word has the form of a name.
+fn is_name(word: &[u8]) -> bool
+    ensures { result ≡ is_name word.now }
+{
+    match word {
+        [] => false,
+        [first, rest @ ..] => { first.is_ascii_lowercase() && rest.len() <= 31 && all_go_on(rest) }
+    }
+}
+
+// Whether a name goes on with each of these bytes.
+fn all_go_on(bytes: &[u8]) -> bool
+    ensures { result ≡ list_all in_word bytes.now }
+{
+    match bytes {
+        [] => true,
+        [first, rest @ ..] => goes_on(*first) && all_go_on(rest),
+    }
+}
+
+// Whether a name goes on with this byte.
+fn goes_on(b: u8) -> bool
+    ensures { result ≡ in_word b }
+{
+    b.is_ascii_lowercase() || b.is_ascii_digit() || b == b'_'
 }
 
 // Whether the word at a place is this one.
@@ -114,28 +173,53 @@ fn command_line<'a>(alloc: Global) -> Result<clap::Command<'a>, AllocError>
     let check = walk.subcommand(clap::Command::new(alloc, "check"))?;
     let format = check.subcommand(clap::Command::new(alloc, "format"))?;
     let list = format.subcommand(clap::Command::new(alloc, "list"))?;
-    list.subcommand(clap::Command::new(alloc, "verify"))
+    let verify = list.subcommand(clap::Command::new(alloc, "verify"))?;
+    let compile = compile_line(alloc)?;
+    verify.subcommand(compile)
+}
+
+// The word `compile`, and a name behind it.
+fn compile_line<'a>(alloc: Global) -> Result<clap::Command<'a>, AllocError>
+    ensures { IfOk result (λ line. IsLineOf line compile_app) }
+{
+    let name = clap::Arg::new(alloc, "name").required(true);
+    clap::Command::new(alloc, "compile").arg(name)
 }
 
 // The command that `clap` met.
-fn named(matches: &ArgMatches) -> Option<Command>
-    ensures { result ≡ command_met (subcommand_rows_of matches.now) }
+fn named(alloc: Global, matches: &ArgMatches, words: &[String]) -> Result<Option<Command>, Memory>
+    ensures { IfOk result (λ found. found ≡ command_met (map string_bytes words.now) (subcommand_rows_of matches.now)) }
 {
     match matches.subcommand() {
-        Some((word, _)) => command_named(word),
-        None => None,
+        Some((word, _)) => command_named(alloc, word, words),
+        None => Ok(None),
     }
 }
 
-fn command_named(word: &str) -> Option<Command>
-    ensures { result ≡ command_named word.now }
+// The command that a word names among these words.
+fn command_named(alloc: Global, word: &str, words: &[String]) -> Result<Option<Command>, Memory>
+    ensures { IfOk result (λ found. found ≡ command_named (map string_bytes words.now) word.now) }
 {
     match word {
-        "walk" => Some(Command::Walk),
-        "check" => Some(Command::Check),
-        "format" => Some(Command::Format),
-        "list" => Some(Command::List),
-        "verify" => Some(Command::Verify),
-        _ => None,
+        "walk" => Ok(Some(Command::Walk)),
+        "check" => Ok(Some(Command::Check)),
+        "format" => Ok(Some(Command::Format)),
+        "list" => Ok(Some(Command::List)),
+        "verify" => Ok(Some(Command::Verify)),
+        "compile" => match second_word(alloc, words) {
+            Ok(name) => Ok(Some(Command::Compile(name))),
+            Err(memory) => Err(memory),
+        },
+        _ => Ok(None),
     }
+}
+
+// The second word; no bytes where there is none.
+fn second_word(alloc: Global, words: &[String]) -> Result<Bytes, Memory>
+    ensures { IfOk result (λ word. word ≡ second_word (map string_bytes words.now)) }
+{
+    if words.len() < 2 {
+        return Ok(Bytes::new(alloc));
+    }
+    Bytes::from_slice(alloc, words[1].as_bytes())
 }

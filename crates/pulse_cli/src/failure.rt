@@ -30,6 +30,8 @@ pub(crate) enum Refusal {
     Syntax(u32),
     /// The first fault of a program's list.
     Check { kind: CheckKind, place: u32 },
+    /// A program has no iterator of the name that was asked for.
+    Iter,
     /// Why bytes are no image.
     Image(ImageFault),
 }
@@ -82,6 +84,7 @@ impl Refusal {
             Refusal::Check { kind, place } => {
                 Ok(bytes_of(format!(in alloc; "program {kind} {place}")?))
             }
+            Refusal::Iter => Bytes::from_slice(alloc, b"program iter"),
             Refusal::Image(fault) => Ok(bytes_of(format!(in alloc; "{fault}")?)),
         }
     }

@@ -1,16 +1,18 @@
 // The commands on the text of a program.
 
-ghost use Rattle.std.specs.Prelude.{◌≤◌, length, IfOk, IfErr};
+ghost use Rattle.std.specs.Prelude.{◌≤◌, ◌<◌, length, IfOk, IfErr};
 ghost use Rattle.iter_syntax.specs.Parsed.{IsProgramOf};
-ghost use Rattle.pulse_cli.specs.Answers.{HasProgram};
+ghost use Rattle.pulse_cli.specs.Answers.{HasProgram, SpellsIter};
 ghost use Rattle.pulse_cli.specs.Steps.{Answered, IsOfProgram};
 
 use crate::command::Command;
 use crate::failure::{Failure, Refusal};
+use code_image::encode;
 use iter_check::{CheckError, Checked, check};
 use iter_syntax::{Program, SyntaxFault, parse, print};
 use layout_text::layout;
-use pulse_base::Bytes;
+use pulse_base::{Bytes, Memory};
+use pulse_codegen::build;
 use std::alloc::Global;
 
 const MOST_TEXT: usize = 65_536;
@@ -41,6 +43,33 @@ pub(crate) fn lay_out(alloc: Global, text: &[u8]) -> Result<Bytes, Failure>
         Ok(lines) => Ok(lines),
         Err(_) => Err(Failure::Memory),
     }
+}
+
+/// The bytes of an image that means the iterator of a name.
+pub(crate) fn compile(alloc: Global, text: &[u8], name: &[u8]) -> Result<Bytes, Failure>
+    ensures { Answered (Command.Compile name.now) text.now result }
+{
+    let checked = match checked_program(alloc, text) {
+        Ok(checked) => checked,
+        Err(failure) => return Err(failure),
+    };
+    let number = match checked.iter_index(name) {
+        Some(number) => number,
+        None => return Err(Failure::Refused(Refusal::Iter)),
+    };
+    match image_bytes(alloc, checked, number) {
+        Ok(bytes) => Ok(bytes),
+        Err(_) => Err(Failure::Memory),
+    }
+}
+
+// The bytes of the image of the iterator of a number.
+fn image_bytes(alloc: Global, checked: Checked, number: usize) -> Result<Bytes, Memory>
+    requires there { number < length (checked).iters }
+    ensures { IfOk result (SpellsIter checked number) }
+{
+    let built = build(alloc, checked)?;
+    encode(alloc, built.image(number))
 }
 
 // The program of a text, which is accepted.

@@ -244,13 +244,22 @@ const READ_AND_LINE: Fails = Fails {
 #[rattlefmt::skip]
 fn says_why_it_fails(rt: HostRuntime) -> Result<(), Fail> {
     // The words, the bytes that a read takes, the calls that fail, the status, and what out and err took.
-    let cases: [(&'static str, &'static [&'static str], usize, Fails, Status, &'static [u8], &'static [u8]); 12] = [
+    let cases: [(&'static str, &'static [&'static str], usize, Fails, Status, &'static [u8], &'static [u8]); 21] = [
         ("no words", &[], 99, NONE, Status::Usage, b"", b"pulse: usage\n"),
         ("an empty word", &[""], 99, NONE, Status::Usage, b"", b"pulse: usage\n"),
         ("an option", &["--help"], 99, NONE, Status::Usage, b"", b"pulse: usage\n"),
         ("help", &["help", "walk"], 99, NONE, Status::Usage, b"", b"pulse: usage\n"),
         ("a command behind two hyphens", &["--", "walk"], 99, NONE, Status::Usage, b"", b"pulse: usage\n"),
         ("two words", &["walk", "walk"], 99, NONE, Status::Usage, b"", b"pulse: usage\n"),
+        ("no name", &["compile"], 99, NONE, Status::Usage, b"", b"pulse: usage\n"),
+        ("two names", &["compile", "find", "find"], 99, NONE, Status::Usage, b"", b"pulse: usage\n"),
+        ("a name behind two hyphens", &["compile", "--", "find"], 99, NONE, Status::Usage, b"", b"pulse: usage\n"),
+        ("a name with a hyphen in front", &["compile", "-find"], 99, NONE, Status::Usage, b"", b"pulse: usage\n"),
+        ("a hyphen in a name", &["compile", "fi-nd"], 99, NONE, Status::Usage, b"", b"pulse: usage\n"),
+        ("a capital in a name", &["compile", "finD"], 99, NONE, Status::Usage, b"", b"pulse: usage\n"),
+        ("a digit before a name", &["compile", "1find"], 99, NONE, Status::Usage, b"", b"pulse: usage\n"),
+        ("an empty name", &["compile", ""], 99, NONE, Status::Usage, b"", b"pulse: usage\n"),
+        ("a name of 33 bytes", &["compile", "a2345678901234567890123456789012_"], 99, NONE, Status::Usage, b"", b"pulse: usage\n"),
         ("a read", &["walk"], 99, FIRST_READ, Status::ReadFault, b"", b"pulse: read\n"),
         ("a later read", &["walk"], 8, SECOND_READ, Status::ReadFault, b"", b"pulse: read\n"),
         ("a write", &["walk"], 99, FIRST_WRITE, Status::WriteFault, b"", b"pulse: write\n"),

@@ -10,7 +10,7 @@ use crate::command::{Command, read_words};
 use crate::document::walk_document;
 use crate::failure::{Failure, Refusal, fail};
 use crate::images::{list, verify};
-use crate::program::{format, lay_out};
+use crate::program::{compile, format, lay_out};
 use pulse_base::{Bytes, Link, ReadAll, Sink, Source, Spawner, Status, read_all, write_all};
 use std::alloc::Global;
 
@@ -86,6 +86,7 @@ fn answer(alloc: Global, command: &Command, text: &[u8]) -> Result<Bytes, Failur
         Command::Walk => walk_document(alloc, text),
         Command::Check => lay_out(alloc, text),
         Command::Format => format(alloc, text),
+        Command::Compile(name) => compile(alloc, text, name.as_slice()),
         Command::List => list(alloc, text),
         Command::Verify => verify(alloc, text),
     }

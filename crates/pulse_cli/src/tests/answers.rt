@@ -164,3 +164,90 @@ fn answers_images(rt: HostRuntime) -> Result<(), Fail> {
     }
     Ok(())
 }
+
+// Four iterators, whose images differ in arguments, pads, and in what a body loads.
+const FOUR_WALKS: &str = "record node { key: u64; val: u64; next: ptr; }
+iter find on node {
+  pad { key: u64; got: u64; }
+  init(head: ptr, key: int) { pad.key = key; go head; }
+  end {
+    if cur.key == pad.key { pad.got = cur.val; done; }
+    if cur.next == null { done; }
+  }
+  next { go cur.next; }
+}
+iter bump on node {
+  pad { hits: u64; }
+  init(head: ptr) { go head; }
+  end {
+    cur.val = cur.val + 1; pad.hits = pad.hits + 1;
+    if cur.next == null { done; }
+  }
+  next { go cur.next; }
+}
+iter hop on node { pad { x: u8; } init(p: ptr) { go p; } end { } next { go cur.next; } }
+iter none on node { pad { x: u8; } init(p: ptr) { go p; } end { } next { go null; } }
+";
+
+// A name, the first line of the listing of its image, and the line of its body's LOAD.
+const COMPILED: [(&str, &str, &str); 4] = [
+    ("find", "image args 2 record 24 pad 16\n", "\n0 LOAD 0 24\n"),
+    ("bump", "image args 1 record 24 pad 8\n", "\n0 LOAD 8 16\n"),
+    ("hop", "image args 1 record 24 pad 1\n", "\n0 LOAD 16 8\n"),
+    ("none", "image args 1 record 24 pad 1\n", "\n0 LOAD 0 0\n"),
+];
+
+#[test]
+fn compiles_the_iterator_of_a_name(rt: HostRuntime) -> Result<(), Fail> {
+    for (name, front, load) in COMPILED {
+        let ran = run(
+            rt.alloc(),
+            &["compile", name],
+            FOUR_WALKS.as_bytes(),
+            1000,
+            NONE,
+        )?;
+        assert_eq!(rt; ran.err.taken(), b"".as_slice(), "{name}");
+        assert_eq!(rt; ran.status, Status::Ok, "{name}");
+        let listed = run(rt.alloc(), &["list"], ran.out.taken(), 1000, NONE)?;
+        assert_eq!(rt; listed.status, Status::Ok, "{name}");
+        let text = listed.out.taken();
+        assert!(rt; text.starts_with(front.as_bytes()), "{name}");
+        assert!(rt; has(text, load.as_bytes()), "{name}");
+    }
+    Ok(())
+}
+
+fn has(text: &[u8], part: &[u8]) -> bool {
+    for at in 0..text.len() {
+        if text[at..].starts_with(part) {
+            return true;
+        }
+    }
+    false
+}
+
+// A name, a text, and why it is not compiled.
+const NOT_COMPILED: [(&str, &str, &str); 4] = [
+    ("leap", FOUR_WALKS, "pulse: program iter\n"),
+    ("if", FOUR_WALKS, "pulse: program iter\n"),
+    ("find", "record r { }", "pulse: program record 7\n"),
+    ("find", "record r { a: u8; } $", "pulse: program lex 20\n"),
+];
+
+#[test]
+fn says_why_it_does_not_compile(rt: HostRuntime) -> Result<(), Fail> {
+    for (name, text, err) in NOT_COMPILED {
+        let ran = run(rt.alloc(), &["compile", name], text.as_bytes(), 1000, NONE)?;
+        ends(&rt, &ran, "", err)?;
+    }
+    let text = spaces(rt.alloc(), 65_537)?;
+    let ran = run(
+        rt.alloc(),
+        &["compile", "find"],
+        text.as_slice(),
+        1000,
+        NONE,
+    )?;
+    ends(&rt, &ran, "", "pulse: document limit program\n")
+}

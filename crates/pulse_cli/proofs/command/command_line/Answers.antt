@@ -13,4 +13,6 @@ returns c =
     let check_is = c.in_ok-check.ensures.shape c.new-3.ensures.local ∙ ap₂ with_subcommand walk_is (ap (λ (a : App). a.top) c.new-3.ensures.app) in
     let format_is = c.in_ok-format.ensures.shape c.new-4.ensures.local ∙ ap₂ with_subcommand check_is (ap (λ (a : App). a.top) c.new-4.ensures.app) in
     let list_is = c.in_ok-list.ensures.shape c.new-5.ensures.local ∙ ap₂ with_subcommand format_is (ap (λ (a : App). a.top) c.new-5.ensures.app) in
-    IfOk-weaker c.subcommand-5.result _ _ (λ line h. h.shape c.new-6.ensures.local ∙ ap₂ with_subcommand list_is (ap (λ (a : App). a.top) c.new-6.ensures.app)) c.subcommand-5.ensures
+    let verify_is = c.in_ok-verify.ensures.shape c.new-6.ensures.local ∙ ap₂ with_subcommand list_is (ap (λ (a : App). a.top) c.new-6.ensures.app) in
+    let compile = c.in_ok-compile.ensures in
+    IfOk-weaker c.subcommand-6.result _ _ (λ line h. h.shape compile.local ∙ ap₂ with_subcommand verify_is (ap (λ (a : App). a.top) compile.shape)) c.subcommand-6.ensures

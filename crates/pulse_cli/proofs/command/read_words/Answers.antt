@@ -14,12 +14,14 @@ returns-in-Err-clause-usage c = λ e some.
 
 pub returns-in-None-clause-usage : goal.returns-in-None-clause-usage
 returns-in-None-clause-usage c = λ e some.
-    let met = met_by _ _ _ c.in-Ok.ensures.matches c.in-None.ensures some in
+    let met : c.in-Ok-named.found ≡ Some some.0 = met_by _ _ _ c.in-Ok.ensures.matches c.in-Ok-named.ensures some in
+    let none = c.in-None.is in
     cc
 
 pub returns-clause-usage : goal.returns-clause-usage
 returns-clause-usage c = λ e some.
-    let met : Some c.in-Some.command ≡ Some some.0 = met_by _ _ _ c.in-Ok.ensures.matches c.in-Some.ensures some in
+    let met : c.in-Ok-named.found ≡ Some some.0 = met_by _ _ _ c.in-Ok.ensures.matches c.in-Ok-named.ensures some in
+    let found : Some c.in-Some.command ≡ Some some.0 = sym c.in-Some.is ∙ met in
     let same : c.in-Some.command ≡ some.0 = cc in
     let is = subst (λ (m : Command). IsCommand _ m) (sym same) some.1 in
     let spelled : c.is_spelled.result ≡ true = c.is_spelled.ensures.1 is in
