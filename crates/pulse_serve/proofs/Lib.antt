@@ -1,0 +1,5 @@
+pub mod Traffics
+pub mod Running
+pub mod Nodes64
+pub mod SwitchTurns
+pub mod NodeTurns

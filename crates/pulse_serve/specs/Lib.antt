@@ -1,0 +1,5 @@
+pub mod Frames
+pub mod Runs
+pub mod SwitchRun
+pub mod NodeRun
+pub mod inner
