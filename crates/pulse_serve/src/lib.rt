@@ -5,11 +5,13 @@
 //! item. Nothing here knows of sockets or commands.
 #![tactic(auto)]
 
+mod client_loop;
 mod frames;
 mod node_loop;
 mod served;
 mod switch_loop;
 
+pub use client_loop::ask_all;
 pub use node_loop::serve_node;
 pub use served::Served;
 pub use switch_loop::serve_switch;
