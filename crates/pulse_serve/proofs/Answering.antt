@@ -29,20 +29,20 @@ keeps_put (q ∷ qs) k a n f h = by (λ g was. keeps_put qs k a n g was) (nat_eq
         let found : find (q ∷ qs) k ≡ Some q = ap (λ b. cond b (Some q) (find qs k)) e in
         let was : FindsAnswer (Some q) = subst (λ b. FindsAnswer (cond b (Some q) (find qs n))) d h in
         subst (λ b. FindsAnswer (find (cond b (record q { asking = a } ∷ qs) (q ∷ put qs k a)) n)) (sym e)
-          (subst (λ b. FindsAnswer (cond b (Some (record q { asking = a })) (find qs n))) (sym d) (f q found was))
+        (subst (λ b. FindsAnswer (cond b (Some (record q { asking = a })) (find qs n))) (sym d) (f q found was))
     by later true false e d =
         let was : FindsAnswer (find qs n) = subst (λ b. FindsAnswer (cond b (Some q) (find qs n))) d h in
         subst (λ b. FindsAnswer (find (cond b (record q { asking = a } ∷ qs) (q ∷ put qs k a)) n)) (sym e)
-          (subst (λ b. FindsAnswer (cond b (Some (record q { asking = a })) (find qs n))) (sym d) was)
+        (subst (λ b. FindsAnswer (cond b (Some (record q { asking = a })) (find qs n))) (sym d) was)
     by later false true e d =
         let was : FindsAnswer (Some q) = subst (λ b. FindsAnswer (cond b (Some q) (find qs n))) d h in
         subst (λ b. FindsAnswer (find (cond b (record q { asking = a } ∷ qs) (q ∷ put qs k a)) n)) (sym e)
-          (subst (λ b. FindsAnswer (cond b (Some q) (find (put qs k a) n))) (sym d) was)
+        (subst (λ b. FindsAnswer (cond b (Some q) (find (put qs k a) n))) (sym d) was)
     by later false false e d =
         let was : FindsAnswer (find qs n) = subst (λ b. FindsAnswer (cond b (Some q) (find qs n))) d h in
         let skip : find (q ∷ qs) k ≡ find qs k = ap (λ b. cond b (Some q) (find qs k)) e in
         subst (λ b. FindsAnswer (find (cond b (record q { asking = a } ∷ qs) (q ∷ put qs k a)) n)) (sym e)
-          (subst (λ b. FindsAnswer (cond b (Some q) (find (put qs k a) n))) (sym d) (later (λ x z. f x (skip ∙ z)) was))
+        (subst (λ b. FindsAnswer (cond b (Some q) (find (put qs k a) n))) (sym d) (later (λ x z. f x (skip ∙ z)) was))
 
 either : (b : Bool) (f : Request → ℕ) (x y z : List Request) → map f x ≡ map f z → map f y ≡ map f z → map f (cond b x y) ≡ map f z
 either true f x y z p q = p
@@ -61,7 +61,7 @@ same_request o q p d e = cc
 does_keeps : {A : Type 0} (c now : ClientState) (k : ℕ) (rule : Request → Asking × A) (x : A) → ((q : Request) → IsAnswer (answer_of q.asking) → IsAnswer (answer_of (rule q).0)) → Does c now k rule x → KeepsAnswers c now
 does_keeps c now k rule x f d =
     subst (KeepsAnswers c) (sym d.leaves)
-      (put_keeps c k (rule d.request).0 (λ q e h. f d.request (subst (λ (y : Request). IsAnswer (answer_of y.asking)) (same_request (find c.requests k) q d.request e d.found) h)))
+    (put_keeps c k (rule d.request).0 (λ q e h. f d.request (subst (λ (y : Request). IsAnswer (answer_of y.asking)) (same_request (find c.requests k) q d.request e d.found) h)))
 
 -- ---- the rules
 
@@ -91,7 +91,7 @@ pub hears_keep : (c now : ClientState) (b : Back) (h : Heard) (o : Option Reques
 hears_keep c now b h None e x = keeps_same c now x.1
 hears_keep c now b h (Some q) e x =
     subst (KeepsAnswers c) (sym x.1)
-      (put_keeps c b.request (hear c.terms b q.asking).0 (λ p d a. hear_keeps c.terms b q.asking (subst (λ (y : Request). IsAnswer (answer_of y.asking)) (same_request (find c.requests b.request) p q d e) a)))
+    (put_keeps c b.request (hear c.terms b q.asking).0 (λ p d a. hear_keeps c.terms b q.asking (subst (λ (y : Request). IsAnswer (answer_of y.asking)) (same_request (find c.requests b.request) p q d e) a)))
 
 -- ---- places
 

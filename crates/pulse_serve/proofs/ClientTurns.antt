@@ -38,9 +38,12 @@ going_on port n c cur now a b d g o = (g.0, g.1, g.2, goes_on (client_loop port)
 
 whole : (port turns : ℕ) (e : Served) (c mid now : ClientState) (a b d : Option Traffic) → DoesAll {E = Failed} (Asks port) c mid a b (Ok tt)
     → Over b d (λ rs ss. (length rs ≤ turns) × TurnsEnd port turns e mid rs now ss) → Over a d (λ rs ss. ServesClient port turns e c rs now ss)
-whole port turns e c mid now a b d all o =
-    (o.0, all.0 ++ o.1, grew_more a b d [] o.0 all.0 o.1 all.1 o.2,
-     (o.3.0, inl (record { mid = mid; early = all.0; asks = all.2; late = o.1; turns_made = o.3.1; sent = refl })))
+whole port turns e c mid now a b d all o = (
+  o.0,
+  all.0 ++ o.1,
+  grew_more a b d [] o.0 all.0 o.1 all.1 o.2,
+  (o.3.0, inl (record { mid = mid; early = all.0; asks = all.2; late = o.1; turns_made = o.3.1; sent = refl })),
+)
 
 pub going_ends : (port n turns : ℕ) (c cur now : ClientState) (a b d : Option Traffic) (e : Served) → n < turns → Going port c n cur a b → Over b d (Goes (client_loop port) (Some e) cur now)
     → Over a d (λ rs ss. ServesClient port turns e c rs now ss)

@@ -52,21 +52,44 @@ pub went : (a b c d : Option Traffic) (plain was : Bool) (port : ℕ) (p mid now
     → item ≢ came.Frame frames.Stop → mid ≡ after_item p item → Grew b c [] (answered port p item) → was ≡ plain → Stepped {E = Failed} was port mid now c d (Ok tt)
     → Over a d (Goes (node_loop plain port) None p now)
 went a b c d plain was port p mid now wait item r idle not after g same s =
-    let early = answered port p item in let late = turn_sent port s.0 in
-    (r.0 ∷ [], early ++ late, grew_more a b d (r.0 ∷ []) [] [] (early ++ late) r.3 (grew_more b c d [] [] early late g s.3),
-     (r.0, refl, record {
-       mid = mid; early = early; hears = heard port p r.0 mid item wait r.1 r.2 idle not after;
-       late = late; steps = record { turned = s.0; turns = s.1; first = subst (λ x. IsTrue x → IsFirst s.0 mid) same s.2; sent = refl }; sent = refl;
-     }))
+    let early = answered port p item in let late = turn_sent port s.0 in (
+      r.0 ∷ [],
+      early ++ late,
+      grew_more a b d (r.0 ∷ []) [] [] (early ++ late) r.3 (grew_more b c d [] [] early late g s.3),
+      (
+        r.0,
+        refl,
+        record {
+          mid = mid;
+          early = early;
+          hears = heard port p r.0 mid item wait r.1 r.2 idle not after;
+          late = late;
+          steps = record { turned = s.0; turns = s.1; first = subst (λ x. IsTrue x → IsFirst s.0 mid) same s.2; sent = refl };
+          sent = refl;
+        },
+      ),
+    )
 
 pub lost : (a b c d : Option Traffic) (plain was : Bool) (port : ℕ) (p mid now : PartState) (wait : Bool) (item : Came) (e : Failed) → Received {E = Failed} a b wait (Ok item) → (IsTrue wait ↔ (p.node.live ≡ []))
     → item ≢ came.Frame frames.Stop → mid ≡ after_item p item → Grew b c [] (answered port p item) → was ≡ plain → Stepped {E = Failed} was port mid now c d (Err e)
     → Over a d (Goes (node_loop plain port) (Some served.LinkFault) p now)
 lost a b c d plain was port p mid now wait item e r idle not after g same s =
     let early = answered port p item in let late = turn_sent port s.0 in
-    let sent = subst (λ l. Grew b d [] l) (append_nil early) (grew_more b c d [] [] early [] g s.3.2) in
-    (r.0 ∷ [], early, grew_more a b d (r.0 ∷ []) [] [] early r.3 sent,
-     inr (r.0, s.3.0, refl, inr (record {
-       mid = mid; early = early; hears = heard port p r.0 mid item wait r.1 r.2 idle not after;
-       late = late; steps = record { turned = s.0; turns = s.1; first = subst (λ x. IsTrue x → IsFirst s.0 mid) same s.2; sent = refl }; sent = ap (λ l. early ++ l) (sym s.3.1);
-     })))
+    let sent = subst (λ l. Grew b d [] l) (append_nil early) (grew_more b c d [] [] early [] g s.3.2) in (
+      r.0 ∷ [],
+      early,
+      grew_more a b d (r.0 ∷ []) [] [] early r.3 sent,
+      inr (
+        r.0,
+        s.3.0,
+        refl,
+        inr (record {
+          mid = mid;
+          early = early;
+          hears = heard port p r.0 mid item wait r.1 r.2 idle not after;
+          late = late;
+          steps = record { turned = s.0; turns = s.1; first = subst (λ x. IsTrue x → IsFirst s.0 mid) same s.2; sent = refl };
+          sent = ap (λ l. early ++ l) (sym s.3.1);
+        }),
+      ),
+    )

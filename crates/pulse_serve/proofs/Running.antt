@@ -21,22 +21,33 @@ Made loop n s now rs ss = Runs loop.Turn s rs now ss × (length rs ≡ n)
 pub goes_on : {S : Type 0} (loop : Loop S) (n : ℕ) (s mid now : S) (a b c : Option Traffic) → Over a b (Made loop n s mid) → Over b c (Goes loop None mid now) → Over a c (Made loop (n + 1) s now)
 goes_on loop n s mid now a b c m g =
     let rs = m.0 in let ss = m.1 in let r = g.3.0 in
-    let more = subst (λ l. Grew b c l g.1) g.3.1 g.2 in
-    (rs ++ r ∷ [], ss ++ g.1, grew_more a b c rs (r ∷ []) ss g.1 m.2 more,
-     (runs_more loop.Turn s mid now rs r ss g.1 m.3.0 g.3.2, omega (arith, length-append rs (r ∷ []), m.3.1)))
+    let more = subst (λ l. Grew b c l g.1) g.3.1 g.2 in (
+      rs ++ r ∷ [],
+      ss ++ g.1,
+      grew_more a b c rs (r ∷ []) ss g.1 m.2 more,
+      (runs_more loop.Turn s mid now rs r ss g.1 m.3.0 g.3.2, omega (arith, length-append rs (r ∷ []), m.3.1)),
+    )
 
 -- an item that changes nothing and ends the loop
 ended : {S : Type 0} (loop : Loop S) (Ends : S → Receipt → Type 0) (n turns : ℕ) (s mid now : S) (a b c : Option Traffic) → n < turns → Over a b (Made loop n s mid)
     → Over b c (λ rs ss. (r : Receipt) × (rs ≡ r ∷ []) × (ss ≡ []) × (now ≡ mid) × Ends mid r) → Over a c (λ rs ss. (length rs ≤ turns) × EndsAt loop.Turn Ends s rs now ss)
 ended loop Ends n turns s mid now a b c less m g =
     let r = g.3.0 in
-    let more : Grew b c (r ∷ []) [] = subst (λ l. Grew b c (r ∷ []) l) g.3.2 (subst (λ l. Grew b c l g.1) g.3.1 g.2) in
-    (m.0 ++ r ∷ [], m.1, subst (λ l. Grew a c (m.0 ++ r ∷ []) l) (append_nil m.1) (grew_more a b c m.0 (r ∷ []) m.1 [] m.2 more),
-     (omega (arith, length-append m.0 (r ∷ []), m.3.1, less), record {
-       before = m.0; last = r; receipts = refl;
-       run = subst (λ x. Runs loop.Turn s m.0 x m.1) (sym g.3.3) m.3.0;
-       ends = subst (λ x. Ends x r) (sym g.3.3) g.3.4;
-     }))
+    let more : Grew b c (r ∷ []) [] = subst (λ l. Grew b c (r ∷ []) l) g.3.2 (subst (λ l. Grew b c l g.1) g.3.1 g.2) in (
+      m.0 ++ r ∷ [],
+      m.1,
+      subst (λ l. Grew a c (m.0 ++ r ∷ []) l) (append_nil m.1) (grew_more a b c m.0 (r ∷ []) m.1 [] m.2 more),
+      (
+        omega (arith, length-append m.0 (r ∷ []), m.3.1, less),
+        record {
+          before = m.0;
+          last = r;
+          receipts = refl;
+          run = subst (λ x. Runs loop.Turn s m.0 x m.1) (sym g.3.3) m.3.0;
+          ends = subst (λ x. Ends x r) (sym g.3.3) g.3.4;
+        },
+      ),
+    )
 
 -- a call that failed
 cut : {S : Type 0} (loop : Loop S) (n turns : ℕ) (s mid now : S) (a b c : Option Traffic) → n < turns → Over a b (Made loop n s mid) → (rs : List Receipt) (ss : List Sent) → Grew b c rs ss
@@ -44,12 +55,17 @@ cut : {S : Type 0} (loop : Loop S) (n turns : ℕ) (s mid now : S) (a b c : Opti
 cut loop n turns s mid now a b c less m rs ss grew (inl g) =
     let more : Grew b c [] [] = subst (λ l. Grew b c [] l) g.1 (subst (λ l. Grew b c l ss) g.0 grew) in
     let all = subst (λ l. Grew a c (m.0 ++ []) l) (append_nil m.1) (grew_more a b c m.0 [] m.1 [] m.2 more) in
-    (m.0, m.1, subst (λ l. Grew a c l m.1) (append_nil m.0) all, (omega (arith, m.3.1, less), inl (subst (λ x. Runs loop.Turn s m.0 x m.1) (sym g.2) m.3.0)))
+    (m.0, m.1, subst (λ l. Grew a c l m.1) (append_nil m.0) all, (omega (arith, m.3.1, less), inl (subst (λ x. Runs loop.Turn s m.0 x m.1) (sym g.2) m.3.0, omega (arith, m.3.1, less))))
 cut loop n turns s mid now a b c less m rs ss grew (inr g) =
-    let more = subst (λ l. Grew b c l ss) g.2 grew in
-    (m.0 ++ g.0 ∷ [], m.1 ++ ss, grew_more a b c m.0 (g.0 ∷ []) m.1 ss m.2 more,
-     (omega (arith, length-append m.0 (g.0 ∷ []), m.3.1, less),
-      inr (record { before = m.0; last = g.0; receipts = refl; mid = mid; early = m.1; run = m.3.0; late = ss; lost = g.1; cut = g.3; sent = refl })))
+    let more = subst (λ l. Grew b c l ss) g.2 grew in (
+      m.0 ++ g.0 ∷ [],
+      m.1 ++ ss,
+      grew_more a b c m.0 (g.0 ∷ []) m.1 ss m.2 more,
+      (
+        omega (arith, length-append m.0 (g.0 ∷ []), m.3.1, less),
+        inr (record { before = m.0; last = g.0; receipts = refl; mid = mid; early = m.1; run = m.3.0; late = ss; lost = g.1; cut = g.3; sent = refl }),
+      ),
+    )
 
 pub ends : {S : Type 0} (loop : Loop S) (n turns : ℕ) (s mid now : S) (a b c : Option Traffic) (e : Served) → n < turns → Over a b (Made loop n s mid) → Over b c (Goes loop (Some e) mid now)
     → Over a c (λ rs ss. Serves loop turns e s rs now ss)

@@ -33,9 +33,13 @@ sweeps_on Turn c mid now at n a b d same less number s o = (s.0 ++ o.0, grew_mor
 
 pub sweeps_lost : (Turn : TurnOn ClientState ℕ) (c mid now : ClientState) (at n : ℕ) (a b d : Option Traffic) (e : Failed) → numbers mid ≡ numbers c → at < length mid.requests
     → option_map (λ q. q.plan.number) (slice_get mid.requests at) ≡ Some n → Sweeps Turn c at mid a b → DoesOne {E = Failed} Turn mid n now b d (Err e) → DoesAll {E = Failed} Turn c now a d (Err e)
-sweeps_lost Turn c mid now at n a b d e same less number s o =
-    (s.0, subst (λ l. Grew a d [] l) (append_nil s.0) (grew_more a b d [] [] s.0 [] s.1 o.2.2), o.2.0, at + 1,
-     subst (λ l. Runs Turn c (take (at + 1) (numbers c)) now (s.0 ++ l)) o.2.1 (one_more Turn c mid now at n s.0 o.0 same less number s.2 o.1))
+sweeps_lost Turn c mid now at n a b d e same less number s o = (
+  s.0,
+  subst (λ l. Grew a d [] l) (append_nil s.0) (grew_more a b d [] [] s.0 [] s.1 o.2.2),
+  o.2.0,
+  at + 1,
+  subst (λ l. Runs Turn c (take (at + 1) (numbers c)) now (s.0 ++ l)) o.2.1 (one_more Turn c mid now at n s.0 o.0 same less number s.2 o.1),
+)
 
 pub sweeps_all : (Turn : TurnOn ClientState ℕ) (c now : ClientState) (at : ℕ) (a b : Option Traffic) → numbers now ≡ numbers c → length now.requests ≤ at → Sweeps Turn c at now a b → DoesAll {E = Failed} Turn c now a b (Ok tt)
 sweeps_all Turn c now at a b same all s =

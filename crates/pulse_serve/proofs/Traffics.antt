@@ -40,12 +40,13 @@ grown t rs ss = record t { incoming = left t.incoming rs; taken = t.taken ++ rs;
 pub grew_more : (a b c : Option Traffic) (rs qs : List Receipt) (ss ts : List Sent) → Grew a b rs ss → Grew b c qs ts → Grew a c (rs ++ qs) (ss ++ ts)
 grew_more None b c rs qs ss ts g h = subst (λ x. Grew x c qs ts) g h
 grew_more (Some t) b c rs qs ss ts g h =
-    let k = subst (λ x. Grew x c qs ts) g.1 h in
-    (comes_more t.incoming rs qs g.0 k.0,
-     k.1 ∙ ap Some (
-       ap (λ l. record t { incoming = l; taken = (t.taken ++ rs) ++ qs; sent = (t.sent ++ ss) ++ ts }) (sym (left_more t.incoming rs qs))
-       ∙ ap (λ l. record t { incoming = left t.incoming (rs ++ qs); taken = l; sent = (t.sent ++ ss) ++ ts }) (append_assoc t.taken rs qs)
-       ∙ ap (λ l. record t { incoming = left t.incoming (rs ++ qs); taken = t.taken ++ (rs ++ qs); sent = l }) (append_assoc t.sent ss ts)))
+    let k = subst (λ x. Grew x c qs ts) g.1 h in (
+      comes_more t.incoming rs qs g.0 k.0,
+      k.1 ∙ ap Some (
+          ap (λ l. record t { incoming = l; taken = (t.taken ++ rs) ++ qs; sent = (t.sent ++ ss) ++ ts }) (sym (left_more t.incoming rs qs))
+          ∙ ap (λ l. record t { incoming = left t.incoming (rs ++ qs); taken = l; sent = (t.sent ++ ss) ++ ts }) (append_assoc t.taken rs qs)
+          ∙ ap (λ l. record t { incoming = left t.incoming (rs ++ qs); taken = t.taken ++ (rs ++ qs); sent = l }) (append_assoc t.sent ss ts)),
+    )
 
 pub append_nil : {A : Type 0} (l : List A) → l ++ [] ≡ l
 append_nil [] = refl
@@ -61,10 +62,12 @@ grew_none (Some t) b e = (tt, sym e ∙ ap Some (sym (unsent t)))
 pub posted : (a b : Option Traffic) (port : ℕ) (bytes : List ℕ) (f : Frame) (r : Result (Unit {0}) Failed) → Sends a b port bytes r → Spells bytes f → Posts a b (letter port f ∷ []) r
 posted None b port bytes f (Ok u) s p = s
 posted None b port bytes f (Err e) s p = (letter port f, refl, s)
-posted (Some t) b port bytes f (Ok u) s p =
-    (tt, s ∙ ap Some (
+posted (Some t) b port bytes f (Ok u) s p = (
+  tt,
+  s ∙ ap Some (
       ap (λ l. record t { sent = t.sent ++ record { port = port; bytes = l } ∷ [] }) p.spelling
-      ∙ ap (λ l. record t { taken = l; sent = t.sent ++ letter port f ∷ [] }) (sym (append_nil t.taken))))
+      ∙ ap (λ l. record t { taken = l; sent = t.sent ++ letter port f ∷ [] }) (sym (append_nil t.taken))),
+)
 posted (Some t) b port bytes f (Err e) s p = (letter port f, refl, grew_none (Some t) b (sym s))
 
 -- ---- an item

@@ -1,5 +1,5 @@
 -- A served run: the items of a link taken one after the other, each by one turn of a loop, and where it ends.
-use Rattle.std.specs.Prelude.{◌≡◌, ◌≤◌, ℕ, List, [], ◌∷◌, ◌++◌, length, ◌⊎◌}
+use Rattle.std.specs.Prelude.{◌≡◌, ◌≤◌, ◌<◌, ℕ, List, [], ◌∷◌, ◌++◌, length, ◌⊎◌}
 use Rattle.pulse_base.specs.Link.{Receipt, Sent}
 use Rattle.pulse_serve.specs.declared.served.Served.{Served}
 use Rattle.pulse_serve.specs.declared.served.Served.TheVariants as served
@@ -47,7 +47,7 @@ pub record Loop (S : Type 0) : Type 1 where
 abbrev pub Ended : {S : Type 0} → Loop S → ℕ → Served → S → List Receipt → S → List Sent → Type 0
 Ended loop turns served.Stopped s rs now ss = EndsAt loop.Turn loop.IsStop s rs now ss
 Ended loop turns served.TurnsUsed s rs now ss = Runs loop.Turn s rs now ss × (length rs ≡ turns)
-Ended loop turns served.LinkFault s rs now ss = Runs loop.Turn s rs now ss ⊎ CutAt loop.Turn loop.UpTo s rs now ss
+Ended loop turns served.LinkFault s rs now ss = (Runs loop.Turn s rs now ss × (length rs < turns)) ⊎ CutAt loop.Turn loop.UpTo s rs now ss
 Ended loop turns served.Memory s rs now ss = EndsAt loop.Turn loop.WantsMemory s rs now ss
 
 -- a loop of so many turns at most, from a state, on these items, to this state with these frames sent

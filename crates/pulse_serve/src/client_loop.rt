@@ -28,7 +28,12 @@ fn ask_one<L: Link>(link: &mut L, client: &mut Client, port: u16, number: u32) -
 }
 
 // Ticks a request and sends its leg again.
-fn tick_one<L: Link>(link: &mut L, client: &mut Client, port: u16, number: u32) -> Result<(), Failed>
+fn tick_one<L: Link>(
+    link: &mut L,
+    client: &mut Client,
+    port: u16,
+    number: u32,
+) -> Result<(), Failed>
     requires { Has client.old number }
     ensures does { DoesOne (Ticks port) client.old number client.new (L.traffic link.old) (L.traffic link.new) result }
     ensures cause { HasCause (L.faults link.old) (L.faults link.new) result }
@@ -74,7 +79,12 @@ fn tick_each<L: Link>(link: &mut L, client: &mut Client, port: u16) -> Result<()
 }
 
 // Hears a back and sends the leg of the next round.
-fn hear_back<L: Link>(link: &mut L, client: &mut Client, port: u16, back: &Back) -> Result<(), Failed>
+fn hear_back<L: Link>(
+    link: &mut L,
+    client: &mut Client,
+    port: u16,
+    back: &Back,
+) -> Result<(), Failed>
     ensures hears { Hearing port client.old (Came.Frame (Frame.Back back.now)) client.new (L.traffic link.old) (L.traffic link.new) result }
     ensures cause { HasCause (L.faults link.old) (L.faults link.new) result }
     ensures answers { KeepsAnswers client.old client.new }
@@ -102,7 +112,12 @@ fn hear<L: Link>(link: &mut L, client: &mut Client, port: u16, item: &Came) -> R
 }
 
 // One turn of the loop: none where it goes on.
-fn take_turn<L: Link>(link: &mut L, client: &mut Client, port: u16, buf: &mut [u8]) -> Option<Served>
+fn take_turn<L: Link>(
+    link: &mut L,
+    client: &mut Client,
+    port: u16,
+    buf: &mut [u8],
+) -> Option<Served>
     requires room { 512 ≤ length buf.old }
     requires unfinished { AllAnswered client.old → ⊥ }
     ensures turn { Over (L.traffic link.old) (L.traffic link.new) (Goes (client_loop port) result client.old client.new) }

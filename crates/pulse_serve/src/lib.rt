@@ -10,6 +10,8 @@ mod frames;
 mod node_loop;
 mod served;
 mod switch_loop;
+#[cfg(test)]
+mod tests;
 
 pub use client_loop::ask_all;
 pub use node_loop::serve_node;

@@ -73,7 +73,12 @@ fn step<L: Link, N: NodePart>(link: &mut L, node: &mut N, port: u16) -> Result<(
 }
 
 // One turn of the loop: none where it goes on.
-fn take_turn<L: Link, N: NodePart>(link: &mut L, node: &mut N, port: u16, buf: &mut [u8]) -> Option<Served>
+fn take_turn<L: Link, N: NodePart>(
+    link: &mut L,
+    node: &mut N,
+    port: u16,
+    buf: &mut [u8],
+) -> Option<Served>
     requires room { 512 ≤ length buf.old }
     ensures turn { Over (L.traffic link.old) (L.traffic link.new) (Goes (node_loop (N.plain node.old) port) result (N.state node.old) (N.state node.new)) }
     ensures fault { result ≡ Some Served.LinkFault → Rose (L.faults link.old) (L.faults link.new) }
@@ -101,7 +106,12 @@ fn take_turn<L: Link, N: NodePart>(link: &mut L, node: &mut N, port: u16, buf: &
 /// Serves as a node for so many turns at most. A turn takes an item, waiting for it exactly where no leg is live. A leg is
 /// accepted, and a back that it is answered with, or the leg where it is elsewhere, goes to the switch. Then the node
 /// makes one turn, and the back of a leg that ended goes to the switch. A Stop ends the loop before that.
-pub fn serve_node<L: Link, N: NodePart>(link: &mut L, node: &mut N, switch_port: u16, turns: u64) -> Served
+pub fn serve_node<L: Link, N: NodePart>(
+    link: &mut L,
+    node: &mut N,
+    switch_port: u16,
+    turns: u64,
+) -> Served
     // What was taken, done and sent is the served run; each end has its cause.
     ensures serves { Over (L.traffic link.old) (L.traffic link.new) (λ rs ss. Serves (node_loop (N.plain node.old) switch_port) turns result (N.state node.old) rs (N.state node.new) ss) }
     ensures fault { result ≡ Served.LinkFault → Rose (L.faults link.old) (L.faults link.new) }
