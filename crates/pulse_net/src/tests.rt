@@ -1,0 +1,56 @@
+// A link in memory, and a real socket.
+
+use super::*;
+use pulse_base::{Bytes, Failed, Got, Link, Numbers};
+use std::test::Fail;
+
+#[test]
+fn a_link_in_memory_hands_out_and_records(rt: HostRuntime) -> Result<(), Fail> {
+    let mut items = Items::new(rt.alloc());
+    items.push(Item::Gap)?;
+    items.push(Item::Frame {
+        port: 47000,
+        bytes: Bytes::from_slice(rt.alloc(), b"hello")?,
+    })?;
+    let mut link = MemLink::make(rt.alloc(), items, Numbers::from_slice(rt.alloc(), &[1, 4])?);
+    let mut buf = [0; 512];
+    assert_eq!(rt; link.bind(47065), Ok(()));
+    assert_eq!(rt; link.bind(47066), Err(Failed));
+    assert_eq!(rt; link.receive(&mut buf, false), Ok(Got::Nothing));
+    assert_eq!(rt;
+        link.receive(&mut buf, true),
+        Ok(Got::Frame {
+            port: 47000,
+            len: 5
+        })
+    );
+    assert_eq!(rt; &buf[..5], b"hello".as_slice());
+    assert_eq!(rt; link.send(47000, b"no"), Err(Failed));
+    assert_eq!(rt; link.send(47001, b"yes"), Ok(()));
+    assert_eq!(rt; link.receive(&mut buf, true), Ok(Got::Nothing));
+    assert_eq!(rt; link.waits(), [false, true, true].as_slice());
+    assert_eq!(rt; link.bound(), [47065].as_slice());
+    assert_eq!(rt; link.sent().len(), 1);
+    assert_eq!(rt; link.sent()[0].port, 47001);
+    assert_eq!(rt; link.sent()[0].bytes.as_slice(), b"yes".as_slice());
+    Ok(())
+}
+
+#[test]
+fn a_socket_carries_a_frame(rt: HostRuntime) {
+    let mut link = UdpLink::new(&rt);
+    let mut buf = [0; 512];
+    assert_eq!(rt; link.send(47911, b"early"), Err(Failed));
+    assert_eq!(rt; link.bind(47911), Ok(()));
+    assert_eq!(rt; link.receive(&mut buf, false), Ok(Got::Nothing));
+    assert_eq!(rt; link.receive(&mut buf, true), Ok(Got::Nothing));
+    assert_eq!(rt; link.send(47911, b"hello"), Ok(()));
+    assert_eq!(rt;
+        link.receive(&mut buf, true),
+        Ok(Got::Frame {
+            port: 47911,
+            len: 5
+        })
+    );
+    assert_eq!(rt; &buf[..5], b"hello".as_slice());
+}

@@ -1,0 +1,164 @@
+// The three loops over a link in memory.
+
+ghost use Rattle.std.specs.Prelude.{◌≡◌, IfOk, All};
+ghost use Rattle.pulse_isa.specs.Spelling.{HasSpelling};
+
+use crate::{Served, ask_all, serve_node, serve_switch};
+use arrayvec::ArrayVec;
+use client_core::Client;
+use code_image::{Code, Image, Images};
+use code_verify::{Sizes, verify};
+use node_core::{Node, NodeRegions};
+use pulse_base::{Answer, Bytes, Memory, Numbers, PadBytes, RequestPlan, Requests};
+use pulse_isa::Instr;
+use pulse_isa::Instr::{GetW, Load, NextIter};
+use pulse_net::{Item, Items, MemLink};
+use range_table::{RegionSpan, Regions, Table};
+use std::alloc::Global;
+use std::test::Fail;
+use switch_core::Switch;
+
+// Leg 0 of request 0 of client 0 with program 0, one iteration left, at 4096, and a pad of one zero byte.
+const LEG: &[u8] = &[
+    0x50, 0x4c, 1, 1, 0, 0, 0, 0, 0, 0, 0, 0, 0, 0, 0, 0, 1, 0, 0, 0, 0, 0x10, 0, 0, 0, 0, 0, 0, 1,
+    0, 0,
+];
+
+// Its back, done with none left.
+const DONE: &[u8] = &[
+    0x50, 0x4c, 1, 2, 0, 0, 0, 0, 0, 0, 0, 0, 0, 0, 0, 0, 0, 0, 1, 0, 0, 0, 0, 0, 0, 0, 0, 0, 1, 0,
+    0,
+];
+
+const STOP: &[u8] = &[
+    0x50, 0x4c, 1, 3, 0, 0, 0, 0, 0, 0, 0, 0, 0, 0, 0, 0, 0, 0, 0, 0, 0, 0, 0, 0, 0, 0, 0, 0, 0, 0,
+];
+
+// A link over which these come in; one that is empty is a gap.
+fn link_of(alloc: Global, frames: &[&[u8]], fails: &[u32]) -> Result<MemLink, Memory> {
+    let mut items = Items::new(alloc);
+    for frame in frames {
+        if frame.is_empty() {
+            items.push(Item::Gap)?;
+        } else {
+            let bytes = Bytes::from_slice(alloc, frame)?;
+            items.push(Item::Frame { port: 47000, bytes })?;
+        }
+    }
+    let fails = Numbers::from_slice(alloc, fails)?;
+    Ok(MemLink::make(alloc, items, fails))
+}
+
+fn code_of(alloc: Global, instrs: &[Instr]) -> Result<Code, Memory>
+    ensures { IfOk result (λ code. code ≡ instrs.now) }
+{
+    let mut code = Code::new(alloc);
+    code.append(instrs)?;
+    Ok(code)
+}
+
+// A program that goes where its one argument says, and on to the number that it finds there.
+fn image(alloc: Global) -> Result<Image, Fail>
+    ensures { IfOk result (λ i. i.args ≡ 1) }
+{
+    let code = [
+        Load { off: 0, len: 8 },
+        GetW { a: 8, w: 8, off: 0 },
+        NextIter { a: 8 },
+    ];
+    let init_sizes = Sizes {
+        init: true,
+        window: 8,
+        pad: 1,
+    };
+    let body_sizes = Sizes {
+        init: false,
+        window: 8,
+        pad: 1,
+    };
+    verify(&code, init_sizes)?;
+    verify(&code, body_sizes)?;
+    let init_code = code_of(alloc, &code)?;
+    let body_code = code_of(alloc, &code)?;
+    Ok(Image::new(8, 1, 1, init_code, body_code))
+}
+
+// Client 0 with request 0, which asks for the argument 4096.
+fn client(alloc: Global, image: Image) -> Result<Client, Fail>
+    requires { image.args ≡ 1 }
+{
+    let mut images = Images::new(alloc);
+    images.push(image)?;
+    let mut args = ArrayVec::new();
+    args.push(4096);
+    let mut requests = Requests::new(alloc);
+    requests.push(RequestPlan {
+        number: 0,
+        iter: 0,
+        client: 0,
+        args,
+    })?;
+    Ok(Client::make(alloc, 0, images, requests, 1, 1, 1)?)
+}
+
+#[test]
+fn the_switch_passes_a_leg_on(rt: HostRuntime) -> Result<(), Fail> {
+    let mut regions = Regions::new(rt.alloc());
+    regions.push(RegionSpan {
+        base: 4096,
+        len: 8,
+        read: true,
+        write: true,
+    })?;
+    let owners = Numbers::from_slice(rt.alloc(), &[5])?;
+    let sizes = Numbers::from_slice(rt.alloc(), &[8])?;
+    let switch = Switch::make(Table::new(regions)?, owners, sizes, 1);
+    let mut link = link_of(rt.alloc(), &[LEG, &[], STOP], &[])?;
+    assert_eq!(rt;
+        serve_switch(&mut link, &switch, 47000, 2),
+        Served::TurnsUsed
+    );
+    assert_eq!(rt; link.sent().len(), 1);
+    assert_eq!(rt; link.sent()[0].port, 47006);
+    assert_eq!(rt; link.sent()[0].bytes.as_slice(), LEG);
+    assert_eq!(rt; serve_switch(&mut link, &switch, 47000, 2), Served::Stopped);
+    let mut broken = link_of(rt.alloc(), &[LEG], &[1])?;
+    assert_eq!(rt;
+        serve_switch(&mut broken, &switch, 47000, 2),
+        Served::LinkFault
+    );
+    Ok(())
+}
+
+#[test]
+fn a_node_sends_back_a_leg_that_is_elsewhere(rt: HostRuntime) -> Result<(), Fail> {
+    let mut images = Images::new(rt.alloc());
+    images.push(image(rt.alloc())?)?;
+    let mut node = Node::make(rt.alloc(), NodeRegions::new(rt.alloc()), images, 1)?;
+    let mut link = link_of(rt.alloc(), &[LEG, &[], STOP, LEG], &[])?;
+    assert_eq!(rt; serve_node(&mut link, &mut node, 47000, 9), Served::Stopped);
+    assert_eq!(rt; link.waits(), [true, true, true].as_slice());
+    assert_eq!(rt; link.sent().len(), 1);
+    assert_eq!(rt; link.sent()[0].port, 47000);
+    assert_eq!(rt; link.sent()[0].bytes.as_slice(), LEG);
+    Ok(())
+}
+
+#[test]
+fn a_client_asks_ticks_and_hears(rt: HostRuntime) -> Result<(), Fail> {
+    let mut client = client(rt.alloc(), image(rt.alloc())?)?;
+    let mut link = link_of(rt.alloc(), &[&[], DONE, DONE], &[])?;
+    assert_eq!(rt; ask_all(&mut link, &mut client, 47000, 9), Served::Stopped);
+    assert_eq!(rt; link.waits(), [true, true].as_slice());
+    assert_eq!(rt; link.sent().len(), 2);
+    for sent in link.sent() {
+        assert_eq!(rt; sent.port, 47000);
+        assert_eq!(rt; sent.bytes.as_slice(), LEG);
+    }
+    assert!(rt; client.has(0));
+    if client.has(0) {
+        let pad = PadBytes::of(&[0]);
+        assert_eq!(rt; *client.answer(0), Answer::Done { pad, count: 1 });
+    }
+    Ok(())
+}
