@@ -67,12 +67,12 @@ lasts k r a = ap (λ z. record { terms = k.terms; images = k.images; plans = z }
 
 -- ---- one request among all of a world
 
-got_set : {A : Type 0} (xs : List A) (n : ℕ) (x y : A) → slice_get xs n ≡ Some x → slice_get (slice_set xs n y) n ≡ Some y
+pub got_set : {A : Type 0} (xs : List A) (n : ℕ) (x y : A) → slice_get xs n ≡ Some x → slice_get (slice_set xs n y) n ≡ Some y
 got_set [] n x y e = absurd (cc)
 got_set (z ∷ xs) zero x y e = refl
 got_set (z ∷ xs) (suc n) x y e = got_set xs n x y e
 
-got_other : {A : Type 0} (xs : List A) (n m : ℕ) (y : A) → nat_eq m n ≡ false → slice_get (slice_set xs n y) m ≡ slice_get xs m
+pub got_other : {A : Type 0} (xs : List A) (n m : ℕ) (y : A) → nat_eq m n ≡ false → slice_get (slice_set xs n y) m ≡ slice_get xs m
 got_other [] n m y ne = refl
 got_other (z ∷ xs) zero zero y ne = absurd (cc)
 got_other (z ∷ xs) zero (suc m) y ne = refl

@@ -13,6 +13,7 @@ use Rattle.frame_codec.specs.declared.frame.Back.{Back}
 use Rattle.leg_ledger.specs.declared.leg.LegKey.{LegKey}
 use Rattle.run_rules.specs.declared.node.LiveLeg.{LiveLeg}
 use Rattle.run_rules.specs.Node.{NodeState, key_of, same_key, find_live, size_in, region_at, offset_of}
+use Rattle.run_rules.specs.Waiting.{Apart}
 use Rattle.run_rules.specs.Turning.{turn, record_of, record_by, is_writable}
 use Rattle.run_rules.proofs.Finds.{by_bool, is_key, find_first}
 use Rattle.node_core.specs.declared.part.Turned.{Turned}
@@ -38,7 +39,7 @@ use Rattle.world_core.proofs.Scenes.{each_at}
 use Rattle.world_core.proofs.Asking.{set_same}
 
 -- a live leg that is found has the name
-found_name : (es : List LiveLeg) (q : LegKey) (e : LiveLeg) → find_live es q ≡ Some e → q ≡ key_of e.leg
+pub found_name : (es : List LiveLeg) (q : LegKey) (e : LiveLeg) → find_live es q ≡ Some e → q ≡ key_of e.leg
 found_name [] q e h = absurd (cc)
 found_name (x ∷ es) q e h = by_bool (same_key q (key_of x.leg))
     (λ t. let c : Some x ≡ Some e = sym (ap (λ b. if b then Some x else find_live es q) t) ∙ h in let d : x ≡ e = cc in is_key q (key_of x.leg) t ∙ ap (λ (z : LiveLeg). key_of z.leg) d)
@@ -119,15 +120,16 @@ iterates_so u old new n t q back m set c h fits told left =
     ∙ (λ j. (record (world_of old) { nodes = nodes j; letters = (world_of old).letters ++ sent_back (gives j); order = old.order ++ named j ∷ [] }, told_turn (world_of old) (named j) (gives j)))
 
 -- a turn that passes over a leg
-passes_so : (old new : Scene) (n : ℕ) (q : LegKey) (before after : Member) → slice_get old.nodes n ≡ Some before → new.nodes ≡ slice_set old.nodes n after
+passes_so : (old new : Scene) (n : ℕ) (q : LegKey) (before after : Member) → slice_get old.nodes n ≡ Some before → new.nodes ≡ slice_set old.nodes n after → Apart after.part.node.live
     → (IsSome (find_live before.part.node.live q) × (after.part ≡ record before.part { node = record before.part.node { live = after.part.node.live } }) × IsPermutation before.part.node.live after.part.node.live)
     → world_of new ≡ record (world_of old) { nodes = (world_of new).nodes; letters = (world_of old).letters ++ []; order = old.order ++ [] } → PassesOver (world_of old) (world_of new) n q
-passes_so old new n q before after stands set h left = record {
+passes_so old new n q before after stands set apart h left = record {
   node = before.part.node;
   stands = stood old n before stands;
   live = h.0;
   order = after.part.node.live;
   same = h.2;
+  apart = apart;
   left = left ∙ (λ i. record (world_of old) {
     nodes = (left_nodes old.nodes new.nodes n after set ∙ ap (λ (p : PartState). slice_set (nodes_of old.nodes) n p.node) h.1) i;
     letters = append-nil (world_of old).letters i;
@@ -151,8 +153,8 @@ turns_by u old new n (turned.Iterated q (Some b)) m set c h fits left = record {
   live = (iterated m.before.part m.after.part q (Some b) m.rule).live;
   step = iterates_so u old new n (told_turn (world_of old) q.request (Some b)) q (Some b) m set c h fits refl left;
 }
-turns_by u old new n (turned.Part q) m set c h fits left = (q, refl, passes_so old new n q m.before m.after m.stands m.left m.rule left)
-turns_by u old new n (turned.Waits q) m set c h fits left = (q, refl, passes_so old new n q m.before m.after m.stands m.left m.rule left)
+turns_by u old new n (turned.Part q) m set c h fits left = (q, refl, passes_so old new n q m.before m.after m.stands m.left m.apart m.rule left)
+turns_by u old new n (turned.Waits q) m set c h fits left = (q, refl, passes_so old new n q m.before m.after m.stands m.left m.apart m.rule left)
 turns_by u old new n turned.Idle m set c h fits left = record {
   node = m.before.part.node;
   stands = stood old n m.before m.stands;

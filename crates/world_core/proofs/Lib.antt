@@ -9,3 +9,4 @@ pub mod Lastings
 pub mod Turning
 pub mod Iterating
 pub mod Runs
+pub mod Reordered

@@ -15,6 +15,7 @@ use Rattle.run_rules.specs.declared.node.Fate.{Fate}
 use Rattle.run_rules.specs.declared.node.Fate.TheVariants as fate
 use Rattle.run_rules.specs.declared.node.Accepted.{Accepted}
 use Rattle.run_rules.specs.declared.node.Accepted.TheVariants as accepted
+use Rattle.run_rules.specs.Waiting.{Apart}
 use Rattle.run_rules.specs.Outcome.{Outcome}
 use Rattle.run_rules.specs.Node.{NodeState, key_of, back_of, find_live, spans_of, place_of}
 use Rattle.run_rules.specs.Accepting.{is_foreign, answer_at, answer_by, answer_to}
@@ -47,15 +48,16 @@ takes_at member nodes old n x y l a h e rule plain o = subst (λ (w : List Membe
 
 pub makes_at : {N : Type 0} (member : N → Member) (nodes : List N) (old : List Member) (n : ℕ) (x y : N) (t : Turned)
     → n < length old → x ≡ get_or nodes n x → HasTurned t (member x).part (member y).part → (member y).plain ≡ (member x).plain
-    → (IsTrue (member x).plain → IsFirst t (member x).part) → (t ≢ turned.Idle → (member y).rest < (member x).rest)
+    → (IsTrue (member x).plain → IsFirst t (member x).part) → Apart (member y).part.node.live → (t ≢ turned.Idle → (member y).rest < (member x).rest)
     → map member nodes ≡ old → Makes t old (map member (slice_set nodes n y)) n
-makes_at member nodes old n x y t h e rule plain first rest o = subst (λ (w : List Member). Makes t w (map member (slice_set nodes n y)) n) o (record {
+makes_at member nodes old n x y t h e rule plain first apart rest o = subst (λ (w : List Member). Makes t w (map member (slice_set nodes n y)) n) o (record {
   before = member x;
   after = member y;
   stands = stands_at member nodes n x (here member nodes old n h o) e;
   rule = rule;
   plain = plain;
   first = first;
+  apart = apart;
   rest = rest;
   left = map-set member nodes n y;
 })

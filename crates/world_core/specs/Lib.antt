@@ -2,4 +2,5 @@ pub mod Letters
 pub mod Scene
 pub mod Turns
 pub mod Runs
+pub mod Laws
 pub mod inner

@@ -5,6 +5,7 @@ use Rattle.pulse_base.specs.declared.event.Trace.{Trace}
 use Rattle.pulse_base.specs.declared.event.Trace.TheVariants as trace
 use Rattle.leg_ledger.specs.declared.leg.LegKey.{LegKey}
 use Rattle.run_rules.specs.declared.node.LiveLeg.{LiveLeg}
+use Rattle.run_rules.specs.Waiting.{Apart}
 use Rattle.run_rules.specs.Node.{NodeState, key_of, find_live}
 use Rattle.run_views.specs.Setting.{Setting}
 use Rattle.event_run.specs.World.{WorldState, turns}
@@ -24,6 +25,7 @@ pub record PassesOver (old new : WorldState) (n : ℕ) (q : LegKey) : Type 0 whe
   pub live : IsSome (find_live node.live q)
   pub order : List LiveLeg
   pub same : IsPermutation node.live order
+  pub apart : Apart order
   pub left : new ≡ record old { nodes = slice_set old.nodes n (record node { live = order }) }
 
 -- no leg of node n is live, and nothing changes

@@ -6,6 +6,7 @@ use Rattle.frame_codec.specs.declared.frame.Frame.TheVariants as frame
 use Rattle.frame_codec.specs.Spelling.{MeetsRules}
 use Rattle.run_rules.specs.declared.node.Accepted.{Accepted}
 use Rattle.run_rules.specs.declared.node.Accepted.TheVariants as accepted
+use Rattle.run_rules.specs.Waiting.{Apart}
 use Rattle.node_core.specs.declared.part.Turned.{Turned}
 use Rattle.node_core.specs.declared.part.Turned.TheVariants as turned
 use Rattle.node_core.specs.Part.{HasAccepted, HasTurned, IsFirst}
@@ -26,6 +27,7 @@ pub record Makes (t : Turned) (old new : List Member) (n : ℕ) : Type 0 where
   pub rule : HasTurned t before.part after.part
   pub plain : after.plain ≡ before.plain
   pub first : IsTrue before.plain → IsFirst t before.part
+  pub apart : Apart after.part.node.live
   pub rest : t ≢ turned.Idle → after.rest < before.rest
   pub left : new ≡ slice_set old n after
 
