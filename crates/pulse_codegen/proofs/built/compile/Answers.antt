@@ -10,11 +10,11 @@ use Rattle.pulse_codegen.specs.Flat.{Fits, IsImageOfFlat}
 use Rattle.pulse_codegen.proofs.Compiles.{fits_too, hoisted_means}
 use Rattle.pulse_codegen.proofs.built.compile.Goals as goal
 
-pub span-requires-clause-inside : goal.span-requires-clause-inside
-span-requires-clause-inside c =
+pub span-off-requires : goal.span-off-requires
+span-off-requires c =
     let straight = c.in_ok-straight.straight in
     let fits : Fits straight = record { small = c.in_ok-straight.ensures.small; keeps = c.in_ok-straight.ensures.keeps; few = c.in_ok-straight.ensures.nodes; inside = c.in_ok-straight.ensures.inside } in
-    (fits_too straight c.in_ok-flat.flat c.in_ok-flat.ensures fits).inside
+    record { inside = (fits_too straight c.in_ok-flat.flat c.in_ok-flat.ensures fits).inside }
 
 pub image_of-requires-clause-fits : goal.image_of-requires-clause-fits
 image_of-requires-clause-fits c =
