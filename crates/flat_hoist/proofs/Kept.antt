@@ -1,5 +1,5 @@
 -- Code with a slot in place of a field keeps to the limits of the code that it was.
-use Rattle.std.proofs.Common.{◌≡◌, ℕ, zero, suc, ◌+◌, ◌<◌, ◌≤◌, ◌&&◌, ◌==◌, not, Bool, true, false, if◌then◌else◌, List, [], ◌∷◌, ◌++◌, ◌⊎◌, inl, inr, refl, sym, ap, ap₂, ◌∙◌, subst, arith}
+use Rattle.std.proofs.Common.{◌≡◌, ℕ, zero, suc, ◌+◌, ◌<◌, ◌&&◌, not, Bool, true, false, if◌then◌else◌, List, [], ◌∷◌, ◌++◌, ◌⊎◌, inl, inr, refl, sym, ap, ap₂, subst, arith}
 use Rattle.std.specs.Prelude.{max}
 use Rattle.iter_syntax.specs.declared.tree.Width.{Width}
 use Rattle.iter_syntax.specs.declared.tree.Width.TheVariants as width
@@ -8,7 +8,7 @@ use Rattle.iter_unroll.specs.Flat.{Fx, Fs}
 use Rattle.iter_unroll.specs.Flat as f
 use Rattle.iter_unroll.specs.Limits.{Reach, InReach, Whole, Keeps, depth, fx_nodes, fs_nodes}
 use Rattle.iter_unroll.specs.Uses.{Use, fx_uses, fs_uses}
-use Rattle.iter_unroll.specs.Span.{Holds, HoldsAll, IsSpan}
+use Rattle.iter_unroll.specs.Span.{HoldsAll, IsSpan}
 use Rattle.flat_hoist.specs.declared.field.Field.{Field}
 use Rattle.flat_hoist.specs.hoisting.Fields.{read_of, has_bytes}
 use Rattle.flat_hoist.specs.hoisting.Swapped.{in_slot, all_in_slot}

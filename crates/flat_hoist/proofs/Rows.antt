@@ -1,5 +1,5 @@
 -- Statements in a row: what is known of the first, and what is left.
-use Rattle.std.proofs.Common.{◌≡◌, ℕ, zero, suc, ◌+◌, ◌*◌, ◌<◌, ◌≤◌, ◌&&◌, Bool, true, false, List, [], ◌∷◌, ◌++◌, length, get_or, drop, refl, sym, ap, ap₂, ◌∙◌, subst, arith}
+use Rattle.std.proofs.Common.{◌≡◌, ℕ, ◌+◌, ◌*◌, ◌<◌, ◌≤◌, ◌&&◌, Bool, true, false, List, [], ◌∷◌, ◌++◌, length, get_or, drop, refl, sym, ap, ap₂, ◌∙◌, arith}
 use Rattle.std.proofs.lemmas.List.{drop_all}
 use Rattle.iter_unroll.specs.declared.tree.FlatExpr.{FlatExpr}
 use Rattle.iter_unroll.specs.declared.tree.FlatStmt.{FlatStmt}
@@ -13,7 +13,7 @@ use Rattle.iter_unroll.proofs.unrolling.Spans.{fsts_drop, nodes_drop}
 use Rattle.flat_hoist.specs.declared.field.Field.{Field}
 use Rattle.flat_hoist.specs.hoisting.Swapped.{in_slot, all_in_slot, before}
 use Rattle.flat_hoist.specs.hoisting.Clear.{spares, clear}
-use Rattle.flat_hoist.specs.hoisting.Reads.{reads, all_reads}
+use Rattle.flat_hoist.specs.hoisting.Reads.{all_reads}
 
 none_left : (ss : List FlatStmt) (i : ℕ) → length ss ≤ i → fsts (drop i ss) ≡ f.end
 none_left ss i h = ap fsts (drop_all i ss h)
@@ -120,8 +120,8 @@ swapped_more h k head was now ss i s t lt e is c one =
     let n = nodes_drop ss i s lt e in
     record {
       same =
-        c.same ∙ ap (before was) (ap (all_in_slot h k) (fsts_drop ss i s lt e) ∙ sym (one rest))
-        ∙ sym (before_more was t (all_in_slot h k rest)) ∙ ap (λ l. before l (all_in_slot h k rest)) (sym is);
+          c.same ∙ ap (before was) (ap (all_in_slot h k) (fsts_drop ss i s lt e) ∙ sym (one rest))
+          ∙ sym (before_more was t (all_in_slot h k rest)) ∙ ap (λ l. before l (all_in_slot h k rest)) (sym is);
       left = omega (arith, n, c.left);
     }
 

@@ -1,11 +1,11 @@
 -- Code with a slot in place of each read of a field, where the slot holds what the field does, does the same.
-use Rattle.std.proofs.Common.{◌≡◌, ◌≢◌, ℕ, zero, suc, ◌+◌, ◌-◌, ◌^◌, nat_eq, ◌<◌, ◌≤◌, ◌&&◌, ◌||◌, ◌==◌, not, Bool, true, false, if◌then◌else◌, nat_le, List, [], ◌∷◌, length, take, drop, get_or, set, Option, Some, None, ◌⊎◌, inl, inr, refl, sym, ap, ap₂, ◌∙◌, subst, arith}
+use Rattle.std.proofs.Common.{◌≡◌, ◌≢◌, ℕ, zero, suc, ◌+◌, ◌-◌, ◌^◌, nat_eq, ◌<◌, ◌≤◌, ◌&&◌, ◌||◌, ◌==◌, not, Bool, true, false, if◌then◌else◌, nat_le, List, length, take, drop, Option, Some, None, ◌⊎◌, inl, inr, refl, sym, ap, ap₂, ◌∙◌, subst, arith}
 use Rattle.std.proofs.lemmas.List.{get_or-set_same, get_or-set_other, length-set, set_comm}
 use Rattle.iter_syntax.specs.declared.tree.Width.{Width}
 use Rattle.iter_syntax.specs.declared.tree.BinaryOp.TheVariants as op
 use Rattle.iter_check.specs.Layout.{width_bytes}
 use Rattle.iter_check.specs.FieldValue.{number_of, read_at, write_at}
-use Rattle.iter_check.specs.Value.{Value, Number, Truth, word, one, both, apply, binary}
+use Rattle.iter_check.specs.Value.{Number, Truth, word, one, both, apply, binary}
 use Rattle.iter_unroll.specs.Flat.{Fx, Fs, Fixed, Slots, Leaving, Falls, Ends, flat_value, flat_given, flat_writable, flat_then, flat_pick, to_slot, to_pad, to_cur, flat_meaning, flat_iterated, flat_iteration, start}
 use Rattle.iter_unroll.specs.Flat as f
 use Rattle.iter_check.specs.Iteration as i

@@ -1,18 +1,16 @@
 -- Code with a field in a slot stands for the code that it was.
-use Rattle.std.proofs.Common.{◌≡◌, ℕ, ◌+◌, ◌<◌, ◌≤◌, Bool, true, false, if◌then◌else◌, List, ◌++◌, ◌⊎◌, inl, inr, refl, sym, ap, ap₂, ◌∙◌, subst, arith}
+use Rattle.std.proofs.Common.{◌≡◌, ℕ, ◌+◌, ◌<◌, ◌≤◌, Bool, true, false, if◌then◌else◌, ◌++◌, refl, sym, ap, ap₂, ◌∙◌, subst, arith}
 use Rattle.iter_unroll.specs.declared.tree.Flat.{Flat}
 use Rattle.iter_unroll.specs.Flat.{Fs, Fixed, flat_iteration}
 use Rattle.iter_unroll.specs.Flat as f
 use Rattle.iter_unroll.specs.Limits.{Reach, InReach, Keeps, init_reach, body_reach, depth, fx_nodes, fs_nodes}
 use Rattle.iter_unroll.specs.Tree.{fsts}
-use Rattle.iter_unroll.specs.Uses.{Use, fx_uses, fs_uses, flat_uses}
+use Rattle.iter_unroll.specs.Uses.{fx_uses, fs_uses}
 use Rattle.iter_unroll.specs.Span.{HoldsAll, IsSpan}
-use Rattle.iter_unroll.specs.Unrolled.{KeepsAll, FewNodes}
 use Rattle.flat_hoist.specs.declared.field.Field.{Field}
 use Rattle.flat_hoist.specs.Hoisted.{StandsFor}
 use Rattle.flat_hoist.specs.hoisting.Fields.{read_of}
 use Rattle.flat_hoist.specs.hoisting.Swapped.{all_in_slot}
-use Rattle.flat_hoist.specs.hoisting.Clear.{clear}
 use Rattle.flat_hoist.specs.hoisting.Reads.{all_reads}
 use Rattle.flat_hoist.specs.hoisting.Hoists.{CanHoist}
 use Rattle.flat_hoist.proofs.Same.{same_iteration}
@@ -84,13 +82,15 @@ one_stands a b h k can rs ps ar init ends next =
       args = ar;
       init = init;
       iterates = λ g r p. ap₂ (λ x y. flat_iteration g x y r p) ends next ∙ same_iteration g h k e n r p can.slot can.ends can.next;
-      keeps = λ m.
-          (subst (λ r. Keeps r (fsts b.init_part)) (init_is a b ar ps) (subst (λ l. Keeps (init_reach a) (fsts l)) (sym init) m.0),
-          subst (λ r. Keeps r (fsts b.end_part)) (reach_is a b rs ps) (subst (Keeps (body_reach a)) (sym ends) (keeps_read (body_reach a) h k e n can.slot can.read m.1 m.2)),
-          subst (λ r. Keeps r (fsts b.next_part)) (reach_is a b rs ps) (subst (Keeps (body_reach a)) (sym next) (still_keeps (body_reach a) h k n can.slot m.2)));
-      few = λ m.
-          (subst (λ l. fs_nodes (fsts l) ≤ 2000) (sym init) m.0,
-          omega (arith, ap fs_nodes ends, ap fs_nodes next, all_nodes h k e, all_nodes h k n, can.room, (read_deep h).1));
+      keeps = λ m. (
+        subst (λ r. Keeps r (fsts b.init_part)) (init_is a b ar ps) (subst (λ l. Keeps (init_reach a) (fsts l)) (sym init) m.0),
+        subst (λ r. Keeps r (fsts b.end_part)) (reach_is a b rs ps) (subst (Keeps (body_reach a)) (sym ends) (keeps_read (body_reach a) h k e n can.slot can.read m.1 m.2)),
+        subst (λ r. Keeps r (fsts b.next_part)) (reach_is a b rs ps) (subst (Keeps (body_reach a)) (sym next) (still_keeps (body_reach a) h k n can.slot m.2)),
+      );
+      few = λ m. (
+        subst (λ l. fs_nodes (fsts l) ≤ 2000) (sym init) m.0,
+        omega (arith, ap fs_nodes ends, ap fs_nodes next, all_nodes h k e, all_nodes h k n, can.room, (read_deep h).1),
+      );
       holds = λ i m. subst (HoldsAll i) (sym (ap₂ (λ x y. fs_uses x ++ fs_uses y) ends next)) (holds_read i h k e n can.read m);
       span = λ i m. subst (λ l. IsSpan l i) (sym (ap₂ (λ x y. fs_uses x ++ fs_uses y) ends next))
           (one_span (fs_uses e ++ fs_uses n) ((fx_uses (read_of h) ++ fs_uses (all_in_slot h k e)) ++ fs_uses (all_in_slot h k n)) i (λ j. holds_read j h k e n can.read) (λ j. held_back j h k e n) m);

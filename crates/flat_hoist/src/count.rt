@@ -65,10 +65,12 @@ fn count_expr(field: Field, e: &FlatExpr) -> Count
         FlatExpr::Arg { .. } => Count::none().under(false),
         FlatExpr::Local { .. } => Count::none().under(false),
         FlatExpr::Cur => Count::none().under(false),
-        FlatExpr::CurField { field: bytes } =>
-            Count::none().under(!field.pad && field.has_bytes(*bytes)),
-        FlatExpr::PadField { field: bytes } =>
-            Count::none().under(field.pad && field.has_bytes(*bytes)),
+        FlatExpr::CurField { field: bytes } => Count::none().under(
+            !field.pad && field.has_bytes(*bytes),
+        ),
+        FlatExpr::PadField { field: bytes } => Count::none().under(
+            field.pad && field.has_bytes(*bytes),
+        ),
         FlatExpr::Not { of } => count_expr(field, of.get()).under(false),
         FlatExpr::Flip { of } => count_expr(field, of.get()).under(false),
         FlatExpr::Binary { left, right, .. } => {

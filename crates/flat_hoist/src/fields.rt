@@ -21,16 +21,22 @@ fn note_expr(fields: &mut Listed<Field>, e: &FlatExpr) -> Result<(), Memory> {
         | FlatExpr::Arg { .. }
         | FlatExpr::Local { .. }
         | FlatExpr::Cur => Ok(()),
-        FlatExpr::CurField { field } => note(fields, Field {
-            pad: false,
-            off: field.off,
-            width: field.width,
-        }),
-        FlatExpr::PadField { field } => note(fields, Field {
-            pad: true,
-            off: field.off,
-            width: field.width,
-        }),
+        FlatExpr::CurField { field } => note(
+            fields,
+            Field {
+                pad: false,
+                off: field.off,
+                width: field.width,
+            },
+        ),
+        FlatExpr::PadField { field } => note(
+            fields,
+            Field {
+                pad: true,
+                off: field.off,
+                width: field.width,
+            },
+        ),
         FlatExpr::Not { of } => note_expr(fields, of.get()),
         FlatExpr::Flip { of } => note_expr(fields, of.get()),
         FlatExpr::Binary { left, right, .. } => {

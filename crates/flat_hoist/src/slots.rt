@@ -65,7 +65,13 @@ fn hoist_one(alloc: Global, flat: Flat, field: Field, slot: u8) -> Result<Flat, 
         value: field.read(),
     })?;
     let ends = swap_row(alloc, field, slot, head, end_part.as_slice())?;
-    let next = swap_row(alloc, field, slot, FlatBlock::new(alloc), next_part.as_slice())?;
+    let next = swap_row(
+        alloc,
+        field,
+        slot,
+        FlatBlock::new(alloc),
+        next_part.as_slice(),
+    )?;
     Ok(Flat {
         record_size,
         pad_size,

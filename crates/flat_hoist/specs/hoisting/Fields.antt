@@ -1,5 +1,5 @@
 -- A field of the record or of the pad.
-use Rattle.std.specs.Prelude.{ℕ, ◌+◌, ◌≤◌, ◌==◌, ◌&&◌, ◌||◌, not, Bool, nat_le, if◌then◌else◌, List}
+use Rattle.std.specs.Prelude.{ℕ, ◌+◌, ◌==◌, ◌&&◌, ◌||◌, Bool, nat_le, if◌then◌else◌, List}
 use Rattle.iter_syntax.specs.declared.tree.Width.{Width}
 use Rattle.iter_check.specs.Layout.{width_bytes}
 use Rattle.iter_check.specs.FieldValue.{read_at}

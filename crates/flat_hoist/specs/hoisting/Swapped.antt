@@ -1,5 +1,5 @@
 -- A slot in place of each read of a field.
-use Rattle.std.specs.Prelude.{ℕ, ◌&&◌, not, Bool, if◌then◌else◌, List, [], ◌∷◌}
+use Rattle.std.specs.Prelude.{ℕ, ◌&&◌, not, if◌then◌else◌, List, [], ◌∷◌}
 use Rattle.iter_unroll.specs.declared.tree.FlatStmt.{FlatStmt}
 use Rattle.iter_unroll.specs.Flat.{Fx, Fs}
 use Rattle.iter_unroll.specs.Flat as f

@@ -1,7 +1,6 @@
-use Rattle.std.proofs.Common.{◌∙◌, ap, refl, arith}
-use Rattle.iter_unroll.specs.Limits.{fs_nodes}
+use Rattle.std.proofs.Common.{ap, refl, arith}
 use Rattle.flat_hoist.specs.hoisting.Reads.{all_reads}
-use Rattle.flat_hoist.proofs.Rows.{if_is, if_nodes, first_less, other_less}
+use Rattle.flat_hoist.proofs.Rows.{if_is, if_nodes}
 use Rattle.flat_hoist.proofs.count.+count.Goals as goal
 
 pub count_stmt-count_row-first-requires : goal.count_stmt-count_row-first-requires

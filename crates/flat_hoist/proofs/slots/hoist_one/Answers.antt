@@ -1,4 +1,4 @@
-use Rattle.std.proofs.Common.{◌∙◌, [], refl, ap}
+use Rattle.std.proofs.Common.{◌∙◌, refl, ap}
 use Rattle.iter_unroll.specs.Flat.{put_slot}
 use Rattle.iter_unroll.specs.Tree.{fsts}
 use Rattle.flat_hoist.specs.hoisting.Fields.{read_of}

@@ -1,4 +1,4 @@
-use Rattle.std.proofs.Common.{◌≡◌, ◌∙◌, [], ap, refl, arith}
+use Rattle.std.proofs.Common.{◌∙◌, ap, refl, arith}
 use Rattle.iter_unroll.specs.Tree.{fsts}
 use Rattle.flat_hoist.specs.hoisting.Swapped.{all_in_slot, before}
 use Rattle.flat_hoist.proofs.Rows.{first_less, other_less, swapped_less, swapped_more, swapped_all, if_swapped}
