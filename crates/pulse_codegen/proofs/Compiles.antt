@@ -1,5 +1,5 @@
 -- The image of straight code that means an iterator means the iterator.
-use Rattle.std.proofs.Common.{◌≡◌, ℕ, zero, suc, ◌*◌, true, List, [], ◌∷◌, ◌++◌, length, Option, Some, None, replicate, refl, sym, ap, ap₂, ◌∙◌, subst, arith}
+use Rattle.std.proofs.Common.{◌≡◌, ◌≤◌, ℕ, zero, suc, ◌*◌, true, List, [], ◌∷◌, ◌++◌, length, Option, Some, None, replicate, refl, sym, ap, ap₂, ◌∙◌, subst, arith}
 use Rattle.std.specs.Prelude.{slice_get}
 use Rattle.pulse_base.specs.declared.answer.Cause.TheVariants.{NotWritable, DivZero}
 use Rattle.iter_syntax.specs.declared.tree.Iter.{Iter}
@@ -12,12 +12,13 @@ use Rattle.code_verify.specs.Run.{run_body, run_init}
 use Rattle.code_image.specs.declared.image.Image.{Image}
 use Rattle.iter_unroll.specs.declared.tree.Flat.{Flat}
 use Rattle.iter_unroll.specs.Tree.{fsts}
-use Rattle.iter_unroll.specs.Flat.{Fs, Fixed, Slots, Leaving, Falls, Ends, flat_value, flat_given, flat_then, flat_pick, flat_meaning, flat_iterated, flat_begun, start, to_slot, to_pad}
+use Rattle.iter_unroll.specs.Flat.{Fs, Fixed, Slots, Leaving, Falls, Ends, flat_value, flat_given, flat_then, flat_pick, flat_meaning, flat_iterated, flat_begun, flat_begin, start, to_slot, to_pad}
 use Rattle.iter_unroll.specs.Flat as x
 use Rattle.iter_unroll.specs.Limits.{Reach, Keeps}
 use Rattle.iter_unroll.specs.Uses.{Use, flat_uses, iter_uses}
-use Rattle.iter_unroll.specs.Span.{IsSpan}
+use Rattle.iter_unroll.specs.Span.{HoldsAll, IsSpan}
 use Rattle.iter_unroll.specs.Unrolled.{HasSizes, Iterates, Begins}
+use Rattle.flat_hoist.specs.Hoisted.{StandsFor}
 use Rattle.flat_code.specs.Frame as f
 use Rattle.flat_code.specs.Segments.{body_frame, init_frame, body_code, init_code}
 use Rattle.flat_code.proofs.Reached.{some_bytes}
@@ -95,10 +96,10 @@ init_is flat h = record { keeps = h.keeps.0; few = h.few.0 }
 
 -- ---- images
 
-pub image_means : (p : Program) (it : Iter) (flat : Flat) (image : Image) → Fits flat → IsImageOfFlat flat image
+image_means : (p : Program) (it : Iter) (flat : Flat) (image : Image) → Fits flat → IsImageOfFlat flat image
     → HasSizes (record_fields p.records it) it flat → Iterates (record_fields p.records it) it flat → Begins (record_fields p.records it) it flat
-    → flat_uses flat ≡ iter_uses (record_fields p.records it) it → IsImageOf p it image
-image_means p it flat image h m sizes iterates begins uses =
+    → ((span : ℕ × ℕ) → IsSpan (iter_uses (record_fields p.records it) it) span → IsSpan (flat_uses flat) span) → IsImageOf p it image
+image_means p it flat image h m sizes iterates begins spans =
     let e = fsts flat.end_part in
     let n = fsts flat.next_part in
     let b = fsts flat.init_part in
@@ -124,13 +125,35 @@ image_means p it flat image h m sizes iterates begins uses =
       };
       loads = record {
         body = λ span least.
-            subst (λ at. LoadsOnce at image.body_code) (span_one (flat_uses flat) m.span span m.least (subst (λ l. IsSpan l span) (sym uses) least))
+            subst (λ at. LoadsOnce at image.body_code) (span_one (flat_uses flat) m.span span m.least (spans span least))
             (subst (LoadsOnce m.span) (sym m.body) (loads (body_frame m.span.0 m.span.1 flat.record_size flat.pad_size) (length (body_code m.span.0 m.span.1 e n)) 1 m.span (body_rest e n) (body_fit flat.record_size flat.pad_size m.span.0 m.span.1 e n body)));
         init = subst (LoadsOnce (0, 8 * image.args)) (sym m.init)
             (subst (λ k. LoadsOnce (0, 8 * k) (init_code flat.args b)) (sym m.args)
             (loads (argument_frame flat.args flat.pad_size) (length (init_code flat.args b)) 1 (0, 8 * flat.args) (init_rest b) (init_fit flat.args flat.pad_size b init)));
       };
     }
+
+-- ---- straight code that stands for other code
+
+pub fits_too : (old new : Flat) → StandsFor old new → Fits old → Fits new
+fits_too old new s h = record {
+  small = subst (λ n. (1 ≤ n) × (n ≤ 256) × (1 ≤ new.pad_size) × (new.pad_size ≤ 256) × (new.args ≤ 8)) (sym s.record_size)
+      (subst (λ n. (1 ≤ old.record_size) × (old.record_size ≤ 256) × (1 ≤ n) × (n ≤ 256) × (new.args ≤ 8)) (sym s.pad_size)
+      (subst (λ n. (1 ≤ old.record_size) × (old.record_size ≤ 256) × (1 ≤ old.pad_size) × (old.pad_size ≤ 256) × (n ≤ 8)) (sym s.args) h.small));
+  keeps = s.keeps h.keeps;
+  few = s.few h.few;
+  inside = subst (λ n. HoldsAll (0, n) (flat_uses new)) (sym s.record_size) (s.holds (0, old.record_size) h.inside);
+}
+
+pub hoisted_means : (p : Program) (it : Iter) (old new : Flat) (image : Image) → StandsFor old new → Fits old → IsImageOfFlat new image
+    → HasSizes (record_fields p.records it) it old → Iterates (record_fields p.records it) it old → Begins (record_fields p.records it) it old
+    → flat_uses old ≡ iter_uses (record_fields p.records it) it → IsImageOf p it image
+hoisted_means p it old new image s h m sizes iterates begins uses =
+    image_means p it new image (fits_too old new s h) m
+    (s.record_size ∙ sizes.0, s.pad_size ∙ sizes.1, s.args ∙ sizes.2)
+    (λ record_bytes cur pad writable. s.iterates (record { args = []; cur = cur; writable = writable }) record_bytes pad ∙ iterates record_bytes cur pad writable)
+    (λ values long. ap₂ (λ b n. flat_begin (fsts b) values n) s.init s.pad_size ∙ begins values (long ∙ s.args))
+    (λ span least. s.span span (subst (λ l. IsSpan l span) (sym uses) least))
 
 -- ---- all of them
 

@@ -8,6 +8,7 @@ ghost use Rattle.pulse_codegen.specs.Flat.{Fits, IsImageOfFlat};
 
 use crate::segments::{body_segment, init_segment};
 use code_image::{Image, Images};
+use flat_hoist::hoist;
 use iter_check::Checked;
 use iter_unroll::{Flat, span, unroll};
 use pulse_base::{Listed, Memory};
@@ -81,7 +82,8 @@ fn compile(alloc: Global, checked: &Checked, iter: usize) -> Result<Image, Memor
     requires there { iter < length (checked.now).iters }
     ensures { IfOk result (Compiles checked.now iter) }
 {
-    let flat = unroll(alloc, checked, iter)?;
+    let straight = unroll(alloc, checked, iter)?;
+    let flat = hoist(alloc, straight)?;
     let (off, len) = span(&flat);
     image_of(alloc, &flat, off, len)
 }

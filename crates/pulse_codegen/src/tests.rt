@@ -32,7 +32,7 @@ fn built_of(rt: &impl Abort, alloc: Global, blocks: &[u8]) -> Result<Built, Fail
 #[test]
 fn loads_the_span_in_short_bodies(rt: HostRuntime) -> Result<(), Fail> {
     // the blocks, the span, and the most instructions
-    let cases: [(&[u8], (u16, u16), usize); 5] = [
+    let cases: [(&[u8], (u16, u16), usize); 6] = [
         (
             b"end { if cur.key == pad.key { pad.got = cur.val; done; } if cur.next == null { done; } } \
 next { go cur.next; }",
@@ -51,6 +51,11 @@ if cur.next == null { done; } } next { go cur.next; }",
             b"end { if 1 == 2 { cur.val = 0; } } next { go null; }",
             (8, 8),
             7,
+        ),
+        (
+            b"end { for i in 0..15 { if i < cur.val { pad.got = i; } } } next { go cur.next; }",
+            (8, 16),
+            63,
         ),
     ];
     for (blocks, (off, len), most) in cases {

@@ -1,0 +1,5 @@
+pub mod Bytes
+pub mod Same
+pub mod Rows
+pub mod Kept
+pub mod Whole

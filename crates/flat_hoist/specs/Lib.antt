@@ -1,0 +1,3 @@
+-- What is to be believed: `Hoisted`.
+pub mod Hoisted
+pub mod hoisting

@@ -1,0 +1,5 @@
+pub mod Fields
+pub mod Swapped
+pub mod Clear
+pub mod Reads
+pub mod Hoists
