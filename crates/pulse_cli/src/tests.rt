@@ -240,26 +240,59 @@ const READ_AND_LINE: Fails = Fails {
     ..NONE
 };
 
+// Words that are no command, behind what is wrong with them.
+#[rattlefmt::skip]
+const NO_COMMANDS: [(&str, &[&str]); 6] = [
+    ("no words", &[]),
+    ("an empty word", &[""]),
+    ("an option", &["--help"]),
+    ("help", &["help", "walk"]),
+    ("a command behind two hyphens", &["--", "walk"]),
+    ("two words", &["walk", "walk"]),
+];
+
+// The same, of words that begin with `compile`.
+#[rattlefmt::skip]
+const NO_NAMES: [(&str, &[&str]); 9] = [
+    ("no name", &["compile"]),
+    ("two names", &["compile", "find", "find"]),
+    ("a name behind two hyphens", &["compile", "--", "find"]),
+    ("a name with a hyphen in front", &["compile", "-find"]),
+    ("a hyphen in a name", &["compile", "fi-nd"]),
+    ("a capital in a name", &["compile", "finD"]),
+    ("a digit before a name", &["compile", "1find"]),
+    ("an empty name", &["compile", ""]),
+    ("a name of 33 bytes", &["compile", "a2345678901234567890123456789012_"]),
+];
+
+#[test]
+fn tells_words_that_are_no_command(rt: HostRuntime) -> Result<(), Fail> {
+    for (wrong, words) in NO_COMMANDS {
+        is_no_command(&rt, wrong, words)?;
+    }
+    for (wrong, words) in NO_NAMES {
+        is_no_command(&rt, wrong, words)?;
+    }
+    Ok(())
+}
+
+fn is_no_command<R: std::process::Abort + AllocGlobal>(
+    rt: &R,
+    wrong: &str,
+    words: &[&'static str],
+) -> Result<(), Fail> {
+    let ran = run(rt.alloc(), words, b"", 99, NONE)?;
+    assert_eq!(rt; ran.status, Status::Usage, "{wrong}");
+    assert_eq!(rt; ran.out.taken(), b"".as_slice(), "{wrong}");
+    assert_eq!(rt; ran.err.taken(), b"pulse: usage\n".as_slice(), "{wrong}");
+    Ok(())
+}
+
 #[test]
 #[rattlefmt::skip]
 fn says_why_it_fails(rt: HostRuntime) -> Result<(), Fail> {
     // The words, the bytes that a read takes, the calls that fail, the status, and what out and err took.
-    let cases: [(&'static str, &'static [&'static str], usize, Fails, Status, &'static [u8], &'static [u8]); 21] = [
-        ("no words", &[], 99, NONE, Status::Usage, b"", b"pulse: usage\n"),
-        ("an empty word", &[""], 99, NONE, Status::Usage, b"", b"pulse: usage\n"),
-        ("an option", &["--help"], 99, NONE, Status::Usage, b"", b"pulse: usage\n"),
-        ("help", &["help", "walk"], 99, NONE, Status::Usage, b"", b"pulse: usage\n"),
-        ("a command behind two hyphens", &["--", "walk"], 99, NONE, Status::Usage, b"", b"pulse: usage\n"),
-        ("two words", &["walk", "walk"], 99, NONE, Status::Usage, b"", b"pulse: usage\n"),
-        ("no name", &["compile"], 99, NONE, Status::Usage, b"", b"pulse: usage\n"),
-        ("two names", &["compile", "find", "find"], 99, NONE, Status::Usage, b"", b"pulse: usage\n"),
-        ("a name behind two hyphens", &["compile", "--", "find"], 99, NONE, Status::Usage, b"", b"pulse: usage\n"),
-        ("a name with a hyphen in front", &["compile", "-find"], 99, NONE, Status::Usage, b"", b"pulse: usage\n"),
-        ("a hyphen in a name", &["compile", "fi-nd"], 99, NONE, Status::Usage, b"", b"pulse: usage\n"),
-        ("a capital in a name", &["compile", "finD"], 99, NONE, Status::Usage, b"", b"pulse: usage\n"),
-        ("a digit before a name", &["compile", "1find"], 99, NONE, Status::Usage, b"", b"pulse: usage\n"),
-        ("an empty name", &["compile", ""], 99, NONE, Status::Usage, b"", b"pulse: usage\n"),
-        ("a name of 33 bytes", &["compile", "a2345678901234567890123456789012_"], 99, NONE, Status::Usage, b"", b"pulse: usage\n"),
+    let cases: [(&'static str, &'static [&'static str], usize, Fails, Status, &'static [u8], &'static [u8]); 6] = [
         ("a read", &["walk"], 99, FIRST_READ, Status::ReadFault, b"", b"pulse: read\n"),
         ("a later read", &["walk"], 8, SECOND_READ, Status::ReadFault, b"", b"pulse: read\n"),
         ("a write", &["walk"], 99, FIRST_WRITE, Status::WriteFault, b"", b"pulse: write\n"),
