@@ -1,6 +1,7 @@
 //! The program `pulse`: the real ends of the outside, and the top call over them.
 #![tactic(auto)]
 
+use node_core::NodeYard;
 use pulse_base::{ReaderSource, Status, WriterSink, write_all};
 use pulse_cli::{AbsentKids, AbsentNet, pulse};
 use std::alloc::AllocError;
@@ -15,6 +16,7 @@ fn main(rt: HostRuntime) -> ExitCode {
     let mut err = WriterSink::new(rt.stderr());
     let mut net = AbsentNet::new();
     let mut kids = AbsentKids::new();
+    let mut yard = NodeYard::new(rt.alloc());
     let status = match words(&rt) {
         Ok(words) => pulse(
             rt.alloc(),
@@ -24,6 +26,7 @@ fn main(rt: HostRuntime) -> ExitCode {
             &mut err,
             &mut net,
             &mut kids,
+            &mut yard,
         ),
         Err(_) => match write_all(&mut err, b"pulse: memory\n") {
             Ok(()) => Status::Memory,

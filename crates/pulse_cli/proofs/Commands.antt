@@ -46,6 +46,14 @@ met_walk : command_met (codes "walk" ∷ []) (subcommand_of pulse_app (codes "wa
 unfolding clap_on_literals
 met_walk = refl
 
+taken_replay : takes pulse_app (codes "replay" ∷ []) ≡ true
+unfolding clap_on_literals
+taken_replay = refl
+
+met_replay : command_met (codes "replay" ∷ []) (subcommand_of pulse_app (codes "replay" ∷ [])) ≡ Some c.Replay
+unfolding clap_on_literals
+met_replay = refl
+
 taken_check : takes pulse_app (codes "check" ∷ []) ≡ true
 unfolding clap_on_literals
 taken_check = refl
@@ -99,6 +107,7 @@ taken_compile (b ∷ bs) h =
 -- words that are a command are taken
 taken : (words : List (List ℕ)) (command : Command) → IsCommand words command → takes pulse_app words ≡ true
 taken words c.Walk h = ap (takes pulse_app) h ∙ taken_walk
+taken words c.Replay h = ap (takes pulse_app) h ∙ taken_replay
 taken words c.Check h = ap (takes pulse_app) h ∙ taken_check
 taken words c.Format h = ap (takes pulse_app) h ∙ taken_format
 taken words (c.Compile name) h = ap (takes pulse_app) h.0 ∙ taken_compile name h.1
@@ -111,6 +120,7 @@ met_of words = command_met words (subcommand_of pulse_app words)
 
 met : (words : List (List ℕ)) (command : Command) → IsCommand words command → met_of words ≡ Some command
 met words c.Walk h = ap met_of h ∙ met_walk
+met words c.Replay h = ap met_of h ∙ met_replay
 met words c.Check h = ap met_of h ∙ met_check
 met words c.Format h = ap met_of h ∙ met_format
 met words (c.Compile name) h = ap met_of h.0 ∙ met_compile name

@@ -6,14 +6,15 @@ use Rattle.pulse_cli.specs.declared.failure.Failure.{Failure}
 use Rattle.pulse_cli.specs.declared.failure.Failure.TheVariants as f
 use Rattle.pulse_cli.specs.Ending.{End, Comes, Ends}
 use Rattle.pulse_cli.specs.Steps.{Fails}
+use Rattle.pulse_cli.specs.Yards.{Yards}
 
-pub ends_as : (words : List (List ℕ)) (input read out written err said : End) (failure : Failure) (status : Status)
-    → Comes words input read out written (Err failure) → Fails failure err said status → Ends words input read out written err said status
-ends_as words input read out written err said f.Usage status c h = (Err f.Usage, c, h)
-ends_as words input read out written err said f.Memory status c h = (Err f.Memory, c, h)
-ends_as words input read out written err said f.Read status c h = (Err f.Read, c, h)
-ends_as words input read out written err said f.Write status c h = (Err f.Write, c, h)
-ends_as words input read out written err said (f.Refused refusal) status c h =
+pub ends_as : (words : List (List ℕ)) (input read out written err said : End) (y : Yards) (failure : Failure) (status : Status)
+    → Comes words input read out written y (Err failure) → Fails failure err said status → Ends words input read out written err said y status
+ends_as words input read out written err said y f.Usage status c h = (Err f.Usage, c, h)
+ends_as words input read out written err said y f.Memory status c h = (Err f.Memory, c, h)
+ends_as words input read out written err said y f.Read status c h = (Err f.Read, c, h)
+ends_as words input read out written err said y f.Write status c h = (Err f.Write, c, h)
+ends_as words input read out written err said y (f.Refused refusal) status c h =
     elim h [ inl h ↦ (Err (f.Refused refusal), c, h) | inr h ↦ (Err f.Memory, c.3, h) ]
 
 -- a failed write has its own status

@@ -16,10 +16,13 @@ use Rattle.pulse_codegen.specs.Compiled.{IsImageOf}
 use Rattle.layout_text.specs.Decls.{layout_text}
 use Rattle.flat_walk.specs.declared.fault.WalkFault.TheVariants as walk
 use Rattle.flat_walk.specs.Answer.{WalkAnswer}
+use Rattle.scenario_text.specs.declared.fault.DocFault.TheVariants as doc
+use Rattle.replay.specs.Answer.{ReplayAnswer}
 use Rattle.pulse_cli.specs.declared.command.Command.{Command}
 use Rattle.pulse_cli.specs.declared.command.Command.TheVariants as c
 use Rattle.pulse_cli.specs.declared.failure.Refusal.{Refusal}
 use Rattle.pulse_cli.specs.declared.failure.Refusal.TheVariants as r
+use Rattle.pulse_cli.specs.Yards.{Yards}
 
 -- the accepted program of a text of at most 65,536 bytes
 pub record HasProgram (text : List ℕ) (program : Program) : Type 0 where
@@ -72,15 +75,24 @@ AnswersWalk document (Ok report) = WalkAnswer document (Ok report)
 AnswersWalk document (Err (r.Walk fault)) = (fault ≢ walk.Memory) × WalkAnswer document (Err fault)
 AnswersWalk document (Err _) = ⊥
 
-abbrev pub Answers : Command → List ℕ → Result (List ℕ) Refusal → Type 0
-Answers c.Walk document answer = AnswersWalk document answer
-Answers c.Check text (Ok output) = (program : Program) × HasProgram text program × (output ≡ layout_text program)
-Answers c.Check text (Err refusal) = RefusesProgram text refusal
-Answers c.Format text (Ok output) = (program : Program) × HasProgram text program × (output ≡ printed program)
-Answers c.Format text (Err refusal) = RefusesProgram text refusal
-Answers (c.Compile name) text (Ok output) = CompilesTo text name output
-Answers (c.Compile name) text (Err refusal) = RefusesProgram text refusal ⊎ ((refusal ≡ r.Iter) × LacksIter text name)
-Answers c.List bytes (Ok output) = (image : Image) × Spells bytes image × (output ≡ listing image)
-Answers c.List bytes (Err refusal) = RefusesImage bytes refusal
-Answers c.Verify bytes (Ok output) = (image : Image) × Spells bytes image × (output ≡ verified_text image)
-Answers c.Verify bytes (Err refusal) = RefusesImage bytes refusal
+-- what is answered of a document that is to be replayed: the report, and the yard has the parts of the replay more; or its first
+-- failing check
+abbrev pub AnswersReplay : List ℕ → Yards → Result (List ℕ) Refusal → Type 0
+AnswersReplay document y (Ok report) = ReplayAnswer document y.before y.after (Ok report)
+AnswersReplay document y (Err (r.Replay fault)) = (fault ≢ doc.Memory) × ReplayAnswer document y.before y.after (Err fault)
+AnswersReplay document y (Err _) = ⊥
+
+-- of the yard only a replay is told
+abbrev pub Answers : Command → List ℕ → Yards → Result (List ℕ) Refusal → Type 0
+Answers c.Walk document y answer = AnswersWalk document answer
+Answers c.Replay document y answer = AnswersReplay document y answer
+Answers c.Check text y (Ok output) = (program : Program) × HasProgram text program × (output ≡ layout_text program)
+Answers c.Check text y (Err refusal) = RefusesProgram text refusal
+Answers c.Format text y (Ok output) = (program : Program) × HasProgram text program × (output ≡ printed program)
+Answers c.Format text y (Err refusal) = RefusesProgram text refusal
+Answers (c.Compile name) text y (Ok output) = CompilesTo text name output
+Answers (c.Compile name) text y (Err refusal) = RefusesProgram text refusal ⊎ ((refusal ≡ r.Iter) × LacksIter text name)
+Answers c.List bytes y (Ok output) = (image : Image) × Spells bytes image × (output ≡ listing image)
+Answers c.List bytes y (Err refusal) = RefusesImage bytes refusal
+Answers c.Verify bytes y (Ok output) = (image : Image) × Spells bytes image × (output ≡ verified_text image)
+Answers c.Verify bytes y (Err refusal) = RefusesImage bytes refusal

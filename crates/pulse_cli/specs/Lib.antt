@@ -4,3 +4,4 @@ pub mod Lines
 pub mod Steps
 pub mod Words
 pub mod WordsRead
+pub mod Yards

@@ -3,6 +3,7 @@ use Rattle.std.specs.Prelude.{ℕ, List, [], ◌∷◌, ◌++◌, codes, decimal
 use Rattle.code_image.specs.Lines.{fault_text}
 use Rattle.flat_walk.specs.Lines.{words_of}
 use Rattle.iter_check.specs.Words.{kind_word}
+use Rattle.scenario_text.specs.Lines as document
 use Rattle.pulse_base.specs.declared.status.Status.{Status}
 use Rattle.pulse_base.specs.declared.status.Status.TheVariants as s
 use Rattle.pulse_cli.specs.declared.failure.Failure.{Failure}
@@ -19,6 +20,7 @@ status_of f.Write = s.WriteFault
 
 abbrev pub refusal_text : Refusal → List ℕ
 refusal_text (r.Walk fault) = words_of fault
+refusal_text (r.Replay fault) = document.words_of fault
 refusal_text r.Long = codes "document long"
 refusal_text r.ProgramLimit = codes "document limit program"
 refusal_text (r.Lex place) = codes "program lex " ++ decimal place

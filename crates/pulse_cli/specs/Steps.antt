@@ -3,6 +3,7 @@ use Rattle.std.specs.Prelude.{◌≡◌, ◌⊎◌, ℕ, ◌<◌, List, [], leng
 use Rattle.pulse_base.specs.Outside.{Rose}
 use Rattle.pulse_cli.specs.Answers.{Answers, RefusesProgram, RefusesImage}
 use Rattle.pulse_cli.specs.Ending.{End, Says}
+use Rattle.pulse_cli.specs.Yards.{Yards}
 use Rattle.pulse_base.specs.declared.status.Status.{Status}
 use Rattle.pulse_cli.specs.declared.command.Command.{Command}
 use Rattle.pulse_cli.specs.declared.failure.Failure.{Failure}
@@ -42,8 +43,8 @@ IsOfImage bytes f.Memory = Unit {0}
 IsOfImage bytes (f.Refused refusal) = RefusesImage bytes refusal
 IsOfImage bytes _ = ⊥
 
-abbrev pub Answered : Command → List ℕ → Result (List ℕ) Failure → Type 0
-Answered command text (Ok output) = Answers command text (Ok output)
-Answered command text (Err f.Memory) = Unit {0}
-Answered command text (Err (f.Refused refusal)) = Answers command text (Err refusal)
-Answered command text (Err _) = ⊥
+abbrev pub Answered : Command → List ℕ → Yards → Result (List ℕ) Failure → Type 0
+Answered command text y (Ok output) = Answers command text y (Ok output)
+Answered command text y (Err f.Memory) = Unit {0}
+Answered command text y (Err (f.Refused refusal)) = Answers command text y (Err refusal)
+Answered command text y (Err _) = ⊥

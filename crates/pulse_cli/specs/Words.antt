@@ -14,6 +14,7 @@ is_name (b ∷ bs) = (is_ascii_lowercase b && nat_le (length bs) 31) && list_all
 -- the words are this command
 abbrev pub IsCommand : List (List ℕ) → Command → Type 0
 IsCommand words c.Walk = words ≡ codes "walk" ∷ []
+IsCommand words c.Replay = words ≡ codes "replay" ∷ []
 IsCommand words c.Check = words ≡ codes "check" ∷ []
 IsCommand words c.Format = words ≡ codes "format" ∷ []
 IsCommand words (c.Compile name) = (words ≡ codes "compile" ∷ name ∷ []) × (is_name name ≡ true)

@@ -21,8 +21,8 @@ compile_app = with_rule (new_app (codes "compile")) name_rule
 -- the commands of one word
 abbrev pub plain_app : App
 plain_app =
-    with_plain (with_plain (with_plain (with_plain (with_plain (without_program (new_app (codes "pulse")))
-    (codes "walk")) (codes "check")) (codes "format")) (codes "list")) (codes "verify")
+    with_plain (with_plain (with_plain (with_plain (with_plain (with_plain (without_program (new_app (codes "pulse")))
+    (codes "walk")) (codes "check")) (codes "format")) (codes "list")) (codes "verify")) (codes "replay")
 
 abbrev pub pulse_app : App
 pulse_app = with_subcommand plain_app compile_app.top
@@ -44,6 +44,7 @@ command_named words word =
     else if bytes_eq word (codes "list") then Some c.List
     else if bytes_eq word (codes "verify") then Some c.Verify
     else if bytes_eq word (codes "compile") then Some (c.Compile (second_word words))
+    else if bytes_eq word (codes "replay") then Some c.Replay
     else None
 
 abbrev pub command_met : List (List ℕ) → Option (Text × List Row) → Option Command

@@ -19,6 +19,8 @@ use std::alloc::{AllocError, Global};
 pub(crate) enum Command {
     /// Walks the region of a document.
     Walk,
+    /// Runs the schedule of a document.
+    Replay,
     /// Lays out the records and iterators of a program.
     Check,
     /// Prints a program.
@@ -64,6 +66,7 @@ impl Command {
     {
         match self {
             Command::Walk => is_only(words, "walk"),
+            Command::Replay => is_only(words, "replay"),
             Command::Check => is_only(words, "check"),
             Command::Format => is_only(words, "format"),
             Command::Compile(name) => is_compile(words, name.as_slice()),
@@ -174,8 +177,9 @@ fn command_line<'a>(alloc: Global) -> Result<clap::Command<'a>, AllocError>
     let format = check.subcommand(clap::Command::new(alloc, "format"))?;
     let list = format.subcommand(clap::Command::new(alloc, "list"))?;
     let verify = list.subcommand(clap::Command::new(alloc, "verify"))?;
+    let replay = verify.subcommand(clap::Command::new(alloc, "replay"))?;
     let compile = compile_line(alloc)?;
-    verify.subcommand(compile)
+    replay.subcommand(compile)
 }
 
 // The word `compile`, and a name behind it.
@@ -202,6 +206,7 @@ fn command_named(alloc: Global, word: &str, words: &[String]) -> Result<Option<C
 {
     match word {
         "walk" => Ok(Some(Command::Walk)),
+        "replay" => Ok(Some(Command::Replay)),
         "check" => Ok(Some(Command::Check)),
         "format" => Ok(Some(Command::Format)),
         "list" => Ok(Some(Command::List)),

@@ -11,6 +11,7 @@ use code_image::ImageFault;
 use flat_walk::WalkFault;
 use iter_check::CheckKind;
 use pulse_base::{Bytes, Memory, Sink, Status, write_all};
+use scenario_text::DocFault;
 use std::alloc::Global;
 
 /// Why an input is refused. Places are byte offsets in the text.
@@ -18,6 +19,8 @@ use std::alloc::Global;
 pub(crate) enum Refusal {
     /// The document has no report of a walk. The fault is never want of memory.
     Walk(WalkFault),
+    /// The first failing check of a document that is to be replayed. The fault is never want of memory.
+    Replay(DocFault),
     /// The input has more than 67,108,864 bytes.
     Long,
     /// The text of a program has more than 65,536 bytes.
@@ -76,6 +79,7 @@ impl Refusal {
     {
         match self {
             Refusal::Walk(fault) => fault.words(alloc),
+            Refusal::Replay(fault) => fault.words(alloc),
             Refusal::Long => Bytes::from_slice(alloc, b"document long"),
             Refusal::ProgramLimit => Bytes::from_slice(alloc, b"document limit program"),
             Refusal::Lex(at) => Ok(bytes_of(format!(in alloc; "program lex {at}")?)),

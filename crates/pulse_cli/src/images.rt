@@ -4,6 +4,7 @@ ghost use Rattle.std.specs.Prelude.{◌≡◌, ◌≢◌, IfOk, IfErr};
 ghost use Rattle.code_image.specs.Spelling.{Spells};
 ghost use Rattle.pulse_cli.specs.Answers.{verified_text};
 ghost use Rattle.pulse_cli.specs.Steps.{Answered, IsOfImage};
+ghost use Rattle.pulse_cli.specs.Yards.{Yards};
 
 use crate::command::Command;
 use crate::failure::{Failure, Refusal};
@@ -14,7 +15,7 @@ use std::alloc::Global;
 
 /// The listing of an image.
 pub(crate) fn list(alloc: Global, bytes: &[u8]) -> Result<Bytes, Failure>
-    ensures { Answered Command.List bytes.now result }
+    ensures { (y : Yards) → Answered Command.List bytes.now y result }
 {
     let image = match read_image(alloc, bytes) {
         Ok(image) => image,
@@ -28,7 +29,7 @@ pub(crate) fn list(alloc: Global, bytes: &[u8]) -> Result<Bytes, Failure>
 
 /// How many instructions the segments of an image have, all of them verified.
 pub(crate) fn verify(alloc: Global, bytes: &[u8]) -> Result<Bytes, Failure>
-    ensures { Answered Command.Verify bytes.now result }
+    ensures { (y : Yards) → Answered Command.Verify bytes.now y result }
 {
     let image = match read_image(alloc, bytes) {
         Ok(image) => image,

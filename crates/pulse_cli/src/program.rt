@@ -4,6 +4,7 @@ ghost use Rattle.std.specs.Prelude.{◌≤◌, ◌<◌, length, IfOk, IfErr};
 ghost use Rattle.iter_syntax.specs.Parsed.{IsProgramOf};
 ghost use Rattle.pulse_cli.specs.Answers.{HasProgram, SpellsIter};
 ghost use Rattle.pulse_cli.specs.Steps.{Answered, IsOfProgram};
+ghost use Rattle.pulse_cli.specs.Yards.{Yards};
 
 use crate::command::Command;
 use crate::failure::{Failure, Refusal};
@@ -19,7 +20,7 @@ const MOST_TEXT: usize = 65_536;
 
 /// The printed form of the program of a text.
 pub(crate) fn format(alloc: Global, text: &[u8]) -> Result<Bytes, Failure>
-    ensures { Answered Command.Format text.now result }
+    ensures { (y : Yards) → Answered Command.Format text.now y result }
 {
     let checked = match checked_program(alloc, text) {
         Ok(checked) => checked,
@@ -33,7 +34,7 @@ pub(crate) fn format(alloc: Global, text: &[u8]) -> Result<Bytes, Failure>
 
 /// The lines of the records and iterators of the program of a text.
 pub(crate) fn lay_out(alloc: Global, text: &[u8]) -> Result<Bytes, Failure>
-    ensures { Answered Command.Check text.now result }
+    ensures { (y : Yards) → Answered Command.Check text.now y result }
 {
     let checked = match checked_program(alloc, text) {
         Ok(checked) => checked,
@@ -47,7 +48,7 @@ pub(crate) fn lay_out(alloc: Global, text: &[u8]) -> Result<Bytes, Failure>
 
 /// The bytes of an image that means the iterator of a name.
 pub(crate) fn compile(alloc: Global, text: &[u8], name: &[u8]) -> Result<Bytes, Failure>
-    ensures { Answered (Command.Compile name.now) text.now result }
+    ensures { (y : Yards) → Answered (Command.Compile name.now) text.now y result }
 {
     let checked = match checked_program(alloc, text) {
         Ok(checked) => checked,

@@ -5,6 +5,7 @@ mod answers;
 ghost use Rattle.std.specs.Prelude.{◌≤◌};
 
 use crate::{AbsentKids, AbsentNet, pulse};
+use node_core::MemYard;
 use pulse_base::{Bytes, MemSink, MemSource, Numbers, Status};
 use std::alloc::Global;
 use std::test::Fail;
@@ -190,6 +191,7 @@ fn run(
     let mut out = MemSink::make(alloc, 10_000, 4, Numbers::from_slice(alloc, fails.out)?)?;
     let mut err = MemSink::make(alloc, 100, 100, Numbers::from_slice(alloc, fails.err)?)?;
     let (mut net, mut kids) = (AbsentNet::new(), AbsentKids::new());
+    let mut yard = MemYard::new(alloc);
     let status = pulse(
         alloc,
         all.as_slice(),
@@ -198,6 +200,7 @@ fn run(
         &mut err,
         &mut net,
         &mut kids,
+        &mut yard,
     );
     Ok(Ran { status, out, err })
 }

@@ -14,5 +14,6 @@ returns c =
     let format_is = c.in_ok-format.ensures.shape c.new-4.ensures.local ∙ ap₂ with_subcommand check_is (ap (λ (a : App). a.top) c.new-4.ensures.app) in
     let list_is = c.in_ok-list.ensures.shape c.new-5.ensures.local ∙ ap₂ with_subcommand format_is (ap (λ (a : App). a.top) c.new-5.ensures.app) in
     let verify_is = c.in_ok-verify.ensures.shape c.new-6.ensures.local ∙ ap₂ with_subcommand list_is (ap (λ (a : App). a.top) c.new-6.ensures.app) in
+    let replay_is = c.in_ok-replay.ensures.shape c.new-7.ensures.local ∙ ap₂ with_subcommand verify_is (ap (λ (a : App). a.top) c.new-7.ensures.app) in
     let compile = c.in_ok-compile.ensures in
-    IfOk-weaker c.subcommand-6.result _ _ (λ line h. h.shape compile.local ∙ ap₂ with_subcommand verify_is (ap (λ (a : App). a.top) compile.shape)) c.subcommand-6.ensures
+    IfOk-weaker c.subcommand-7.result _ _ (λ line h. h.shape compile.local ∙ ap₂ with_subcommand replay_is (ap (λ (a : App). a.top) compile.shape)) c.subcommand-7.ensures
