@@ -10,3 +10,5 @@ pub mod Turning
 pub mod Iterating
 pub mod Runs
 pub mod Reordered
+pub mod Resting
+pub mod Drains

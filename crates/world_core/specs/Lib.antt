@@ -3,4 +3,5 @@ pub mod Scene
 pub mod Turns
 pub mod Runs
 pub mod Laws
+pub mod Drains
 pub mod inner

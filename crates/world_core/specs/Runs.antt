@@ -1,5 +1,5 @@
 -- A world as the event run of a setting.
-use Rattle.std.specs.Prelude.{◌≡◌, ℕ, ◌<◌, IsTrue, length, Some, slice_get}
+use Rattle.std.specs.Prelude.{◌≡◌, ◌≢◌, ℕ, ◌<◌, IsTrue, [], length, Option, Some, None, slice_get}
 use Rattle.pulse_base.specs.declared.event.Event.{Event}
 use Rattle.pulse_base.specs.declared.event.Event.TheVariants as event
 use Rattle.pulse_base.specs.declared.event.Trace.{Trace}
@@ -13,6 +13,7 @@ use Rattle.client_core.specs.Requests.{ClientState}
 use Rattle.event_run.specs.World as run
 use Rattle.event_run.specs.World.{WorldState}
 use Rattle.event_run.specs.Always.{HasNumbers, IsRun, IsEventOf}
+use Rattle.drain_run.specs.Drain.{live_at}
 use Rattle.scenario_run.specs.Code.{IsCodeOf}
 use Rattle.world_core.specs.Scene.{Member, Scene, request_at, world_of}
 use Rattle.world_core.specs.Turns.{TurnsSo}
@@ -55,3 +56,18 @@ EventSo old new e t = (u : Setting) (start : Flat) → IsSetting u → HasNumber
 abbrev pub EventPlain : (old new : Scene) → Event → Trace → Type 0
 EventPlain old new e t = Each (λ (m : Member). IsTrue m.plain) old.nodes
     → (u : Setting) (start : Flat) → IsSetting u → HasNumbers u → IsSceneOf u old → IsRun u start (world_of old) → (world_of new, t) ≡ run.event u (world_of old) e
+
+-- the number of a node that its turns lower
+abbrev pub rest_of : Option Member → ℕ
+rest_of None = 0
+rest_of (Some m) = m.rest
+
+abbrev pub rest_at : Scene → ℕ → ℕ
+rest_at s n = rest_of (slice_get s.nodes n)
+
+-- a turn of a node that is not idle lowers its number
+abbrev pub LowersRest : (old new : Scene) → Event → Type 0
+LowersRest old new (event.Ask r) = Unit {0}
+LowersRest old new (event.Tick r) = Unit {0}
+LowersRest old new (event.Deliver k) = Unit {0}
+LowersRest old new (event.Turn n) = live_at (slice_get (world_of old).nodes n) ≢ [] → rest_at new n < rest_at old n

@@ -4,3 +4,4 @@ pub mod Clients
 pub mod Fits
 pub mod Sends
 pub mod Events
+pub mod Drains

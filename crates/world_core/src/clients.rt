@@ -1,14 +1,14 @@
 // The clients of a run.
 
-ghost use Rattle.std.specs.Prelude.{◌≡◌, ◌<◌, length, Some};
+ghost use Rattle.std.specs.Prelude.{◌≡◌, ◌<◌, length, Some, IfSome};
 ghost use Rattle.std.specs.Option.{option_map};
 ghost use Rattle.run_rules.specs.Client as rule;
-ghost use Rattle.client_core.specs.Calls.{AskedFits, TickedFits, HeardFits, asks};
-ghost use Rattle.world_core.specs.Scene.{request_at};
+ghost use Rattle.client_core.specs.Calls.{AskedFits, TickedFits, HeardFits, LegFits, asks};
+ghost use Rattle.world_core.specs.Scene.{asking_in, request_at};
 ghost use Rattle.world_core.specs.inner.Clients.{HasAt, DoesAt, HearsAt};
 
 use client_core::{Asked, Client, Heard, Ticked};
-use frame_codec::Back;
+use frame_codec::{Back, Leg};
 use pulse_base::Answer;
 use std::marker::Model;
 
@@ -64,6 +64,15 @@ impl Clients {
         ensures fits { HeardFits result }
     {
         self.clients[c].on(back)
+    }
+
+    /// The current leg of a request of a client; none where it is not asked or is answered.
+    pub fn resend(&self, c: usize, r: u32) -> Option<Leg>
+        requires { HasAt self.now c r }
+        ensures leg { result ≡ rule.resend (asking_in (request_at self.now c r)) }
+        ensures fits { IfSome result LegFits }
+    {
+        self.clients[c].resend(r)
     }
 
     /// The answer of a request of a client.

@@ -1,6 +1,6 @@
 // The letters of a run, as bytes.
 
-ghost use Rattle.std.specs.Prelude.{◌≡◌, ◌<◌, ◌++◌, ◌∷◌, [], true, length, slice_get, Some, OnOk};
+ghost use Rattle.std.specs.Prelude.{◌≡◌, ◌<◌, ◌≤◌, ◌++◌, ◌∷◌, [], true, length, slice_get, Some, OnOk};
 ghost use Rattle.frame_codec.specs.Spelling.{MeetsRules, pad_of};
 ghost use Rattle.world_core.specs.Letters.{IsLetterOf, frame_of};
 ghost use Rattle.world_core.specs.inner.Notes.{Lies, bytes_in, letter_in, note_of};
@@ -14,6 +14,9 @@ use std::marker::Model;
 /// The bytes of the longest frame.
 pub const FRAME_MAX: usize = 286;
 
+/// The most letters of a run: their numbers fit 32 bits.
+pub const LETTERS_MAX: usize = 4_000_000_000;
+
 /// All letters of a run, in the order in which they were sent. The list only grows. Each letter takes the bytes of its
 /// frame and a note of fixed size, so reading one costs the same however many there are. Contracts see the letters, and
 /// whether there is room for one more, of any size.
@@ -24,6 +27,7 @@ pub struct Letters {
 }
 
 impl Model for Letters {
+    ghost use Rattle.std.specs.Prelude.{◌≤◌, length};
     ghost use Rattle.world_core.specs.Letters.{LettersState};
     ghost use Rattle.world_core.specs.inner.Notes.{letters_view, AreNotes};
 
@@ -31,7 +35,7 @@ impl Model for Letters {
 
     ghost view = { letters_view };
 
-    ghost invariant = { λ l. AreNotes l.bytes.items l.notes.items };
+    ghost invariant = { λ l. AreNotes l.bytes.items l.notes.items × (length l.notes.items ≤ 4000000000) };
 }
 
 // The frame of a content.
@@ -139,16 +143,21 @@ impl Letters {
 
     /// How many letters were sent.
     pub fn len(&self) -> usize
-        ensures { result ≡ length self.now.sent }
+        ensures len { result ≡ length self.now.sent }
+        ensures few { result ≤ 4000000000 }
     {
         self.notes.len()
     }
 
-    /// Makes room for one more letter.
+    /// Makes room for one more letter, where fewer than the most were sent.
     pub fn make_room(&mut self) -> Result<(), Memory>
         ensures sent { self.new.sent ≡ self.old.sent }
         ensures room { OnOk result (self.new.room ≡ true) }
+        ensures few { OnOk result (length self.new.sent < 4000000000) }
     {
+        if self.notes.len() >= LETTERS_MAX {
+            return Err(Memory);
+        }
         self.bytes.reserve(FRAME_MAX)?;
         self.notes.reserve(1)?;
         Ok(())
@@ -157,6 +166,7 @@ impl Letters {
     /// Appends a letter for which there is room.
     pub fn push(&mut self, to: To, content: &Content)
         requires room { self.old.room ≡ true }
+        requires few { length self.old.sent < 4000000000 }
         requires rules { MeetsRules (frame_of content.now) }
         ensures { self.new.sent ≡ self.old.sent ++ record { to = to; content = content.now } ∷ [] }
     {

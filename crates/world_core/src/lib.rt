@@ -2,7 +2,8 @@
 //!
 //! Read [`World::event`], then `specs/Scene.antt` and `specs/Runs.antt`: an event of a world is the event of a run of each setting
 //! to which the world belongs, as `event_run` defines it. Only a turn of a node that is not plain is more: it is of any live leg, or
-//! passes over one (`specs/Turns.antt`). `specs/Letters.antt` says which bytes a letter has.
+//! passes over one (`specs/Turns.antt`). [`World::drain`] is the drain of `drain_run` (`specs/Drains.antt`). `specs/Letters.antt`
+//! says which bytes a letter has.
 #![tactic(auto)]
 
 mod clients;

@@ -1,7 +1,8 @@
 // The nodes of a run.
 
-ghost use Rattle.std.specs.Prelude.{◌≡◌, ◌<◌, ◌≤◌, length, map};
-ghost use Rattle.world_core.specs.Scene.{HoldsAt, ReadsAt};
+ghost use Rattle.std.specs.Prelude.{◌≡◌, ◌<◌, ◌≤◌, ◌↔◌, [], IsTrue, length, map, slice_get};
+ghost use Rattle.drain_run.specs.Drain.{live_at};
+ghost use Rattle.world_core.specs.Scene.{HoldsAt, ReadsAt, nodes_of};
 ghost use Rattle.world_core.specs.inner.Nodes.{Takes, Makes, AnswerFits, TurnFits};
 
 use frame_codec::Leg;
@@ -58,6 +59,14 @@ impl<N: NodePart> Nodes<N> {
         ensures fits { TurnFits result }
     {
         self.nodes[n].turn()
+    }
+
+    /// Whether no leg is live on a node.
+    pub fn is_idle(&self, n: usize) -> bool
+        requires { n < length self.now }
+        ensures { IsTrue result ↔ (live_at (slice_get (nodes_of self.now) n) ≡ []) }
+    {
+        self.nodes[n].is_idle()
     }
 
     /// How many nodes there are.

@@ -7,6 +7,7 @@ ghost use Rattle.world_core.specs.Letters.{IsLetterOf, IsTo};
 ghost use Rattle.world_core.specs.Scene.{HoldsAt, ReadsAt, owner_in, world_of};
 ghost use Rattle.world_core.specs.inner.Fits.{IsScene};
 
+mod drain;
 mod events;
 
 use crate::clients::Clients;
@@ -87,9 +88,8 @@ impl<N: NodePart> World<N> {
         }
     }
 
-    /// How many letters were sent.
+    /// How many letters were sent: at most 4,000,000,000.
     pub fn letters(&self) -> u32
-        requires { length self.now.letters ≤ 4000000000 }
         ensures { result ≡ length self.now.letters }
     {
         self.letters.len() as u32

@@ -7,7 +7,7 @@ ghost use Rattle.run_rules.specs.Switch.{on};
 ghost use Rattle.event_run.specs.World.{to_node, switches};
 ghost use Rattle.world_core.specs.Letters.{frame_of};
 ghost use Rattle.world_core.specs.Scene.{IsAsBefore, Stays, world_of};
-ghost use Rattle.world_core.specs.Runs.{EventPlain, EventSo, IsThere};
+ghost use Rattle.world_core.specs.Runs.{EventPlain, EventSo, IsThere, LowersRest};
 ghost use Rattle.world_core.specs.inner.Events.{Asks, Delivers, DeliversAt, Happens, Hears, IsHere, Ticks, Turns};
 ghost use Rattle.world_core.specs.inner.Sends.{ordered_by};
 ghost use Rattle.world_core.specs.inner.Fits.{LetterFits, OutFits, OutMeets};
@@ -57,7 +57,6 @@ impl<N: NodePart> World<N> {
     fn to_node(&mut self, n: u16, leg: &Leg) -> Result<Trace, Memory>
         requires here { n < length self.old.nodes }
         requires rules { MeetsRules (frame.Leg leg.now) }
-        requires few { length self.old.letters < 4000000000 }
         ensures step { IfOk result (λ t. (world_of self.new, t) ≡ to_node (world_of self.old) n leg.now (slice_get (world_of self.old).nodes n)) }
         ensures stays { IfOk result (λ t. Stays self.old self.new) }
         ensures err { OnErr result (IsAsBefore self.old self.new) }
@@ -70,7 +69,6 @@ impl<N: NodePart> World<N> {
     // Lets the switch send on what a letter carries.
     fn to_switch(&mut self, content: &Content) -> Result<Trace, Memory>
         requires rules { MeetsRules (frame_of content.now) }
-        requires few { length self.old.letters < 4000000000 }
         ensures step { IfOk result (λ t. (world_of self.new, t) ≡ switches (world_of self.old) (on self.old.switch (frame_of content.now))) }
         ensures stays { IfOk result (λ t. Stays self.old self.new) }
         ensures err { OnErr result (IsAsBefore self.old self.new) }
@@ -83,7 +81,6 @@ impl<N: NodePart> World<N> {
     // Asks a request at its home, and sends its first leg.
     fn ask(&mut self, r: u32) -> Result<Trace, Memory>
         requires here { r < length self.old.homes }
-        requires few { length self.old.letters < 4000000000 }
         ensures asks { IfOk result (λ t. Asks self.old self.new r t) }
         ensures stays { IfOk result (λ t. Stays self.old self.new) }
         ensures err { OnErr result (IsAsBefore self.old self.new) }
@@ -97,7 +94,6 @@ impl<N: NodePart> World<N> {
     // A tick of a request at its home, which may send its leg once more.
     fn tick(&mut self, r: u32) -> Result<Trace, Memory>
         requires here { r < length self.old.homes }
-        requires few { length self.old.letters < 4000000000 }
         ensures ticks { IfOk result (λ t. Ticks self.old self.new r t) }
         ensures stays { IfOk result (λ t. Stays self.old self.new) }
         ensures err { OnErr result (IsAsBefore self.old self.new) }
@@ -111,7 +107,6 @@ impl<N: NodePart> World<N> {
     // Lets a client hear a back, which may send the leg of the next round.
     fn to_client(&mut self, c: u16, back: &Back) -> Result<Trace, Memory>
         requires here { c < length self.old.clients }
-        requires few { length self.old.letters < 4000000000 }
         ensures hears { IfOk result (λ t. Hears self.old self.new c back.now t) }
         ensures stays { IfOk result (λ t. Stays self.old self.new) }
         ensures err { OnErr result (IsAsBefore self.old self.new) }
@@ -124,7 +119,6 @@ impl<N: NodePart> World<N> {
     // Lets a node make a turn: an iteration is the next of the order, and the back of a leg that ended is sent.
     fn turn(&mut self, n: u32) -> Result<Trace, Memory>
         requires here { n < length self.old.nodes }
-        requires few { length self.old.letters < 4000000000 }
         ensures turns { IfOk result (λ t. Turns self.old self.new n t) }
         ensures stays { IfOk result (λ t. Stays self.old self.new) }
         ensures err { OnErr result (IsAsBefore self.old self.new) }
@@ -140,7 +134,6 @@ impl<N: NodePart> World<N> {
     fn hand(&mut self, letter: &Letter) -> Result<Trace, Memory>
         requires rules { MeetsRules (frame_of letter.now.content) }
         requires fits { LetterFits (length self.old.nodes) (length self.old.clients) letter.now }
-        requires few { length self.old.letters < 4000000000 }
         ensures delivers { IfOk result (λ t. Delivers self.old self.new letter.now.to letter.now.content t) }
         ensures stays { IfOk result (λ t. Stays self.old self.new) }
         ensures err { OnErr result (IsAsBefore self.old self.new) }
@@ -160,7 +153,6 @@ impl<N: NodePart> World<N> {
 
     // Delivers a letter, where it was sent.
     fn deliver(&mut self, k: u32) -> Result<Trace, Memory>
-        requires few { length self.old.letters < 4000000000 }
         ensures delivers { IfOk result (λ t. DeliversAt self.old self.new (slice_get self.old.letters k) t) }
         ensures stays { IfOk result (λ t. Stays self.old self.new) }
         ensures err { OnErr result (IsAsBefore self.old self.new) }
@@ -175,7 +167,6 @@ impl<N: NodePart> World<N> {
     // Lets an event happen.
     fn happen(&mut self, event: &Event) -> Result<Trace, Memory>
         requires there { IsHere self.old event.now }
-        requires few { length self.old.letters < 4000000000 }
         ensures happens { IfOk result (λ t. Happens self.old self.new event.now t) }
         ensures stays { IfOk result (λ t. Stays self.old self.new) }
         ensures err { OnErr result (IsAsBefore self.old self.new) }
@@ -192,9 +183,9 @@ impl<N: NodePart> World<N> {
     /// world belongs it is an event of the run. The world stays as it was where there is no memory.
     pub fn event(&mut self, event: Event) -> Result<Trace, Memory>
         requires there { IsThere self.old event }
-        requires few { length self.old.letters < 4000000000 }
         ensures step { IfOk result (λ t. EventSo self.old self.new event t) }
         ensures plain { IfOk result (λ t. EventPlain self.old self.new event t) }
+        ensures rest { IfOk result (λ t. LowersRest self.old self.new event) }
         ensures stays { Stays self.old self.new }
         ensures err { OnErr result (IsAsBefore self.old self.new) }
     {

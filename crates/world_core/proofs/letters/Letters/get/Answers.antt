@@ -8,7 +8,7 @@ use Rattle.world_core.proofs.letters.Letters.get.Goals as goal
 
 pub letter_of-requires : goal.letter_of-requires
 letter_of-requires c = subst (λ b. Lies b c.index.result.now) (sym c.as_slice.ensures.value)
-    (read_lies c.self.inside.bytes.items c.self.inside.notes.items c.args.self.now.sent c.args.k c.index.result.now c.self.invariant (ap (λ (s : LettersState). s.sent) c.self.view_is) c.requires c.index.ensures)
+    (read_lies c.self.inside.bytes.items c.self.inside.notes.items c.args.self.now.sent c.args.k c.index.result.now c.self.invariant.0 (ap (λ (s : LettersState). s.sent) c.self.view_is) c.requires c.index.ensures)
 
 pub returns-clause-letter : goal.returns-clause-letter
 returns-clause-letter c = read_is c.self.inside.bytes.items c.self.inside.notes.items c.args.self.now.sent c.args.k c.index.result.now (ap (λ (s : LettersState). s.sent) c.self.view_is) c.requires c.index.ensures
@@ -16,5 +16,5 @@ returns-clause-letter c = read_is c.self.inside.bytes.items c.self.inside.notes.
 
 pub returns-clause-rules : goal.returns-clause-rules
 returns-clause-rules c =
-    let l = read_lies c.self.inside.bytes.items c.self.inside.notes.items c.args.self.now.sent c.args.k c.index.result.now c.self.invariant (ap (λ (s : LettersState). s.sent) c.self.view_is) c.requires c.index.ensures in
+    let l = read_lies c.self.inside.bytes.items c.self.inside.notes.items c.args.self.now.sent c.args.k c.index.result.now c.self.invariant.0 (ap (λ (s : LettersState). s.sent) c.self.view_is) c.requires c.index.ensures in
     subst (λ (m : Letter). MeetsRules (frame_of m.content)) (ap (λ b. letter_in b c.index.result.now) (sym c.as_slice.ensures.value) ∙ sym c.letter_of.ensures) l.spells.rules
