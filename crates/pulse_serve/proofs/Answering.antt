@@ -1,8 +1,7 @@
 -- What keeps the answers of a client, and the first request that has none.
-use Rattle.std.proofs.Common.{◌≡◌, ◌≢◌, ◌≤◌, ◌<◌, ℕ, zero, suc, ◌+◌, Bool, true, false, cond, List, [], ◌∷◌, ◌++◌, length, map, take, get_or, slice_get, Option, Some, None, nat_eq, refl, sym, ap, subst, ◌∙◌, arith}
+use Rattle.std.proofs.Common.{◌≡◌, ◌≤◌, ◌<◌, ℕ, zero, suc, ◌+◌, Bool, true, false, cond, List, [], ◌∷◌, ◌++◌, length, map, take, get_or, slice_get, Option, Some, None, nat_eq, refl, sym, ap, subst, ◌∙◌, arith}
 use Rattle.std.specs.Option.{option_map}
 use Rattle.pulse_base.specs.declared.answer.Answer.{Answer}
-use Rattle.pulse_base.specs.declared.answer.Answer.TheVariants as answer
 use Rattle.frame_codec.specs.declared.frame.Back.{Back}
 use Rattle.run_rules.specs.declared.client.Asking.{Asking}
 use Rattle.run_rules.specs.declared.client.Asking.TheVariants as asking
@@ -14,7 +13,7 @@ use Rattle.client_core.specs.declared.request.Request.{Request}
 use Rattle.client_core.specs.Requests.{ClientState, find, put, with_asking}
 use Rattle.client_core.specs.Calls.{Does, Hears, asks}
 use Rattle.pulse_base.specs.Link.{Sent}
-use Rattle.pulse_serve.specs.ClientRun.{numbers, IsAnswer, FindsAnswer, HasAnswer, AllAnswered, Asks, Ticks, HearsBack}
+use Rattle.pulse_serve.specs.ClientRun.{numbers, IsAnswer, FindsAnswer, HasAnswer, AllAnswered, Asks, Ticks}
 use Rattle.pulse_serve.specs.inner.Asking.{AnsweredBefore, KeepsAnswers}
 
 -- ---- one request stands otherwise

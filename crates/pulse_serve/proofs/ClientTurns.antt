@@ -1,14 +1,13 @@
 -- A client's loop, from its calls.
-use Rattle.std.proofs.Common.{◌≡◌, ◌≤◌, ◌<◌, ℕ, ◌+◌, true, List, [], ◌∷◌, ◌++◌, length, Option, Some, None, Ok, Err, refl, sym, ap, subst, ◌∙◌, inl, inr, arith}
-use Rattle.pulse_base.specs.Link.{Receipt, Sent, Traffic}
+use Rattle.std.proofs.Common.{◌≡◌, ◌≤◌, ◌<◌, ℕ, ◌+◌, true, [], ◌∷◌, ◌++◌, length, Option, Some, None, Ok, Err, refl, ◌∙◌, inl, inr, arith}
+use Rattle.pulse_base.specs.Link.{Traffic}
 use Rattle.pulse_base.specs.declared.source.Failed.{Failed}
 use Rattle.client_core.specs.Requests.{ClientState}
 use Rattle.pulse_serve.specs.declared.frames.Came.{Came}
 use Rattle.pulse_serve.specs.declared.served.Served.{Served}
 use Rattle.pulse_serve.specs.declared.served.Served.TheVariants as served
-use Rattle.pulse_serve.specs.Frames.{Says, Grew, Over, Received}
-use Rattle.pulse_serve.specs.Runs.{Runs}
-use Rattle.pulse_serve.specs.ClientRun.{numbers, AllAnswered, Asks, client_loop, TurnsEnd, ServesClient}
+use Rattle.pulse_serve.specs.Frames.{Over, Received}
+use Rattle.pulse_serve.specs.ClientRun.{AllAnswered, Asks, client_loop, TurnsEnd, ServesClient}
 use Rattle.pulse_serve.specs.inner.Steps.{Goes}
 use Rattle.pulse_serve.specs.inner.Asking.{DoesAll, Hearing}
 use Rattle.pulse_serve.proofs.Traffics.{grew_more}

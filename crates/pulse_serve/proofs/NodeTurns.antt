@@ -1,27 +1,25 @@
 -- A turn of a node's loop, from its calls.
-use Rattle.std.proofs.Common.{◌≡◌, ◌≢◌, ◌↔◌, ℕ, Bool, IsTrue, List, [], ◌∷◌, ◌++◌, Option, Some, None, Ok, Err, refl, sym, ap, subst, ◌∙◌, inl, inr}
-use Rattle.std.specs.FinMap as m
-use Rattle.pulse_base.specs.Link.{Receipt, Sent, Traffic}
+use Rattle.std.proofs.Common.{◌≡◌, ◌≢◌, ◌↔◌, ℕ, Bool, IsTrue, [], ◌∷◌, ◌++◌, Option, Some, None, Ok, Err, refl, sym, ap, subst, ◌∙◌, inr}
+use Rattle.pulse_base.specs.Link.{Receipt, Traffic}
 use Rattle.pulse_base.specs.declared.source.Failed.{Failed}
 use Rattle.frame_codec.specs.declared.frame.Back.{Back}
 use Rattle.frame_codec.specs.declared.frame.Frame.TheVariants as frames
 use Rattle.frame_codec.specs.Spelling.{MeetsRules}
 use Rattle.leg_ledger.specs.declared.leg.LegKey.{LegKey}
-use Rattle.leg_ledger.specs.declared.leg.Reply.{Reply}
 use Rattle.leg_ledger.proofs.Keys.{get_same}
 use Rattle.run_rules.specs.declared.node.Fate.{Fate}
 use Rattle.run_rules.specs.declared.node.Fate.TheVariants.{Stays, Ends}
 use Rattle.run_rules.specs.declared.node.LiveLeg.{LiveLeg}
 use Rattle.run_rules.specs.Outcome.{Outcome}
 use Rattle.run_rules.specs.Node.{NodeState, key_of, find_live, place_of}
-use Rattle.run_rules.specs.Turning.{turn, turn_of, settled, stored, fate_of, back_in}
+use Rattle.run_rules.specs.Turning.{turn_of, settled, stored, fate_of, back_in}
 use Rattle.node_core.specs.declared.part.Turned.TheVariants as turned
 use Rattle.node_core.specs.Part.{PartState, IsPart, KeptFits, HasTurned, IsFirst, ran}
 use Rattle.pulse_serve.specs.declared.frames.Came.{Came}
 use Rattle.pulse_serve.specs.declared.frames.Came.TheVariants as came
 use Rattle.pulse_serve.specs.declared.served.Served.TheVariants as served
-use Rattle.pulse_serve.specs.Frames.{Says, Grew, Over, Received, Posts}
-use Rattle.pulse_serve.specs.NodeRun.{WaitsIdle, NodeHears, NodeSteps, NodeTurn, node_loop, after_item, answered, turn_sent}
+use Rattle.pulse_serve.specs.Frames.{Says, Grew, Over, Received}
+use Rattle.pulse_serve.specs.NodeRun.{NodeHears, node_loop, after_item, answered, turn_sent}
 use Rattle.pulse_serve.specs.inner.Steps.{Goes, Stepped}
 use Rattle.pulse_serve.proofs.Traffics.{grew_more, append_nil}
 

@@ -4,7 +4,7 @@ use Rattle.pulse_base.specs.Link.{Receipt, Sent, Traffic}
 use Rattle.pulse_serve.specs.declared.served.Served.{Served}
 use Rattle.pulse_serve.specs.declared.served.Served.TheVariants as served
 use Rattle.pulse_serve.specs.Frames.{Grew, Over}
-use Rattle.pulse_serve.specs.Runs.{TurnOn, Runs, CutAt, EndsAt, Loop, Serves}
+use Rattle.pulse_serve.specs.Runs.{TurnOn, Runs, EndsAt, Loop, Serves}
 use Rattle.pulse_serve.specs.inner.Steps.{Goes}
 use Rattle.pulse_serve.proofs.Traffics.{grew_more, grew_none, append_nil}
 

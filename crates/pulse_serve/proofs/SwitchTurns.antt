@@ -1,15 +1,14 @@
 -- A turn of the switch, from its calls.
-use Rattle.std.proofs.Common.{◌≡◌, ◌≢◌, ℕ, true, List, [], ◌∷◌, Option, Some, None, Ok, Err, refl, sym, ap, subst, ◌∙◌, inl, inr}
-use Rattle.pulse_base.specs.Link.{Receipt, Sent, Traffic}
+use Rattle.std.proofs.Common.{◌≡◌, ◌≢◌, ℕ, true, [], ◌∷◌, Option, Some, None, Ok, Err, refl, subst, inr}
+use Rattle.pulse_base.specs.Link.{Receipt, Traffic}
 use Rattle.pulse_base.specs.declared.source.Failed.{Failed}
-use Rattle.frame_codec.specs.declared.frame.Frame.{Frame}
 use Rattle.frame_codec.specs.declared.frame.Frame.TheVariants as frames
-use Rattle.run_rules.specs.Switch.{SwitchState, on}
+use Rattle.run_rules.specs.Switch.{SwitchState}
 use Rattle.pulse_serve.specs.declared.frames.Came.{Came}
 use Rattle.pulse_serve.specs.declared.frames.Came.TheVariants as came
 use Rattle.pulse_serve.specs.declared.served.Served.TheVariants as served
 use Rattle.pulse_serve.specs.Frames.{Says, Grew, Over, Received, Posts}
-use Rattle.pulse_serve.specs.SwitchRun.{letters_of, passed_on, SwitchTurn, switch_loop}
+use Rattle.pulse_serve.specs.SwitchRun.{passed_on, SwitchTurn, switch_loop}
 use Rattle.pulse_serve.specs.inner.Steps.{Goes}
 use Rattle.pulse_serve.proofs.Traffics.{grew_more}
 

@@ -1,5 +1,5 @@
 -- How traffic grows, one call after the other.
-use Rattle.std.proofs.Common.{◌≡◌, ◌≤◌, ◌<◌, ℕ, ◌+◌, Bool, List, [], ◌∷◌, ◌++◌, length, take, min, Option, Some, None, Result, Ok, Err, refl, sym, ap, subst, ◌∙◌, arith, append_assoc, length-append, length-take}
+use Rattle.std.proofs.Common.{◌≡◌, ◌≤◌, ℕ, Bool, List, [], ◌∷◌, ◌++◌, length, take, min, Option, Some, None, Result, Ok, Err, refl, sym, ap, subst, ◌∙◌, arith, append_assoc, length-append, length-take}
 use Rattle.std.proofs.Math.Seq.{take-length}
 use Rattle.pulse_base.specs.Link.{Item, frame, gap, Receipt, Sent, Traffic, next_item, later_items, receive, Receives, Sends, Answers}
 use Rattle.pulse_base.specs.declared.link.Got.{Got}
@@ -8,9 +8,8 @@ use Rattle.pulse_base.specs.declared.source.Failed.{Failed}
 use Rattle.frame_codec.specs.declared.frame.Frame.{Frame}
 use Rattle.frame_codec.specs.declared.header.Header.{Header}
 use Rattle.frame_codec.specs.Layout.{header_bytes}
-use Rattle.frame_codec.specs.Spelling.{Spells, header_of, pad_of, HasPad, frame_bytes}
+use Rattle.frame_codec.specs.Spelling.{Spells, header_of, pad_of, HasPad}
 use Rattle.frame_codec.specs.declared.frame.Frame.TheVariants as frames
-use Rattle.pulse_serve.specs.declared.frames.Came.{Came}
 use Rattle.pulse_serve.specs.declared.frames.Came.TheVariants as came
 use Rattle.pulse_serve.specs.Frames.{Says, Comes, left, Grew, Received, Posts, letter}
 

@@ -2,7 +2,6 @@
 use Rattle.std.specs.Prelude.{◌≡◌, ℕ, Bool, List, [], ◌∷◌, ◌++◌, Option, Some, None, Result, Ok, Err}
 use Rattle.pulse_base.specs.Link.{Item, frame, gap, Receipt, Sent, Traffic, next_item, later_items}
 use Rattle.frame_codec.specs.declared.frame.Frame.{Frame}
-use Rattle.frame_codec.specs.declared.frame.Frame.TheVariants as frames
 use Rattle.frame_codec.specs.Spelling.{Spells, MeetsRules, frame_bytes}
 use Rattle.pulse_serve.specs.declared.frames.Came.{Came}
 use Rattle.pulse_serve.specs.declared.frames.Came.TheVariants as came

@@ -1,4 +1,4 @@
-use Rattle.std.proofs.Common.{◌≡◌, ◌-◌, ◌≤◌, length}
+use Rattle.std.proofs.Common.{◌≡◌, ◌-◌, length}
 use Rattle.pulse_serve.specs.ClientRun.{numbers, Asks}
 use Rattle.pulse_serve.proofs.Sweeping.{Sweeps}
 use Rattle.pulse_serve.proofs.client_loop.ask_each.Given as goal

@@ -1,4 +1,4 @@
-use Rattle.std.proofs.Common.{◌≡◌, ◌-◌, ◌≤◌, length}
+use Rattle.std.proofs.Common.{◌≡◌, ◌-◌, length}
 use Rattle.pulse_serve.specs.ClientRun.{numbers, Ticks}
 use Rattle.pulse_serve.specs.inner.Asking.{KeepsAnswers}
 use Rattle.pulse_serve.proofs.Sweeping.{Sweeps}

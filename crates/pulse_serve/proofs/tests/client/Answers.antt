@@ -1,4 +1,4 @@
-use Rattle.std.proofs.Common.{◌≡◌, ℕ, zero, suc, List, [], ◌∷◌, ◌++◌, length, All, refl, sym, ap, ◌∙◌, subst, rules, nat_eq, arith}
+use Rattle.std.proofs.Common.{◌≡◌, zero, suc, [], ◌∷◌, ◌++◌, length, All, refl, sym, ap, ◌∙◌, subst, rules, nat_eq, arith}
 use Rattle.std.specs.List.{IsDistinct}
 use Rattle.code_image.specs.declared.image.Image.{Image}
 use Rattle.pulse_base.specs.declared.plan.RequestPlan.{RequestPlan}
