@@ -23,14 +23,15 @@ impl Model for Kid {
 }
 
 impl Kid {
-    // The child with this number, which an adapter of this crate started.
-    pub(crate) fn of(number: u32) -> Kid
+    /// The child with this number. For spawners: whoever waits has its children from `start`.
+    pub fn of(number: u32) -> Kid
         ensures { result ≡ number }
     {
         Kid { number }
     }
 
-    pub(crate) fn number(&self) -> u32
+    /// Its number.
+    pub fn number(&self) -> u32
         ensures { result ≡ self.now }
     {
         self.number

@@ -1,7 +1,7 @@
-// A link in memory, and a real socket.
+// A link and a spawner in memory, a real socket and a real child.
 
 use super::*;
-use pulse_base::{Bytes, Failed, Got, Link, Numbers};
+use pulse_base::{Bytes, Failed, Got, Link, Numbers, Spawner};
 use std::test::Fail;
 
 #[test]
@@ -53,4 +53,40 @@ fn a_socket_carries_a_frame(rt: HostRuntime) {
         })
     );
     assert_eq!(rt; &buf[..5], b"hello".as_slice());
+}
+
+#[test]
+fn a_spawner_in_memory_records(rt: HostRuntime) -> Result<(), Fail> {
+    let mut statuses = Numbers::new(rt.alloc());
+    statuses.push(8)?;
+    let mut kids = MemSpawner::make(rt.alloc(), statuses, Numbers::from_slice(rt.alloc(), &[1])?);
+    let mut words = Vec::new(rt.alloc());
+    words.push(String::from_str(rt.alloc(), "switch")?)?;
+    let first = kids.start(words.as_slice(), b"in")?;
+    assert!(rt; kids.start(words.as_slice(), b"in").is_err());
+    let second = kids.start(&[], b"")?;
+    assert_eq!(rt; kids.wait(second), Ok(8));
+    assert_eq!(rt; kids.wait(first), Ok(0));
+    assert_eq!(rt; kids.waited(), [1, 0].as_slice());
+    assert_eq!(rt; kids.started().len(), 2);
+    assert_eq!(rt;
+        kids.started()[0].words.get(0).as_slice(),
+        b"switch".as_slice()
+    );
+    assert_eq!(rt; kids.started()[0].input.as_slice(), b"in".as_slice());
+    assert_eq!(rt; kids.started()[1].kid, 1);
+    Ok(())
+}
+
+#[test]
+fn a_child_runs_to_its_end(rt: HostRuntime) -> Result<(), Fail> {
+    let mut words = Vec::new(rt.alloc());
+    words.push(String::from_str(rt.alloc(), "-c")?)?;
+    words.push(String::from_str(rt.alloc(), "read word; test \"$word\" = hello && exit 7")?)?;
+    let mut kids = Children::of_file(&rt, "/bin/sh");
+    let kid = kids.start(words.as_slice(), b"hello\n")?;
+    assert_eq!(rt; kids.wait(kid), Ok(7));
+    let mut none = Children::of_file(&rt, "/no/such/file");
+    assert!(rt; none.start(&[], b"").is_err());
+    Ok(())
 }

@@ -14,6 +14,7 @@ use crate::clients::Clients;
 use crate::letter::To;
 use crate::letters::Letters;
 use crate::nodes::Nodes;
+use client_core::Client;
 use code_image::Images;
 use node_core::NodePart;
 use pulse_base::{Answer, Numbers};
@@ -62,27 +63,27 @@ impl<N: NodePart> Model for World<N> {
 }
 
 impl<N: NodePart> World<N> {
-    // A world of these parts, in which nothing was sent. `owners` are the switch's.
-    pub(crate) fn of(
+    /// A world of these parts, in which nothing was sent. `owners` are the switch's, and `homes` has the client of each request.
+    pub fn of(
         alloc: Global,
         switch: Switch,
         owners: Numbers,
         images: Images,
         homes: Numbers,
-        nodes: Nodes<N>,
-        clients: Clients,
+        nodes: Vec<N>,
+        clients: Vec<Client>,
     ) -> World<N>
         requires owners { owners ≡ switch.owners }
-        requires fits { IsScene (record { switch = switch; images = images; homes = homes; nodes = nodes; clients = clients; letters = []; order = [] }) }
-        ensures { result ≡ record { switch = switch; images = images; homes = homes; nodes = nodes; clients = clients; letters = []; order = [] } }
+        requires fits { IsScene (record { switch = switch; images = images; homes = homes; nodes = map (λ n. record { part = N.state n; rest = N.rest n; plain = N.plain n }) nodes.items; clients = clients.items; letters = []; order = [] }) }
+        ensures { result ≡ record { switch = switch; images = images; homes = homes; nodes = map (λ n. record { part = N.state n; rest = N.rest n; plain = N.plain n }) nodes.items; clients = clients.items; letters = []; order = [] } }
     {
         World {
             switch,
             owners,
             images,
             homes,
-            nodes,
-            clients,
+            nodes: Nodes::of(nodes),
+            clients: Clients::of(clients),
             letters: Letters::new(alloc),
             order: Numbers::new(alloc),
         }
