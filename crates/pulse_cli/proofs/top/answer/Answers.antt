@@ -1,3 +1,4 @@
+use Rattle.std.proofs.Common.{◌∙◌, ap, sym}
 use Rattle.pulse_cli.specs.Yards.{yards}
 use Rattle.pulse_cli.specs.declared.command.Command.TheVariants as m
 use Rattle.pulse_cli.proofs.Outputs.{answered_as}
@@ -31,4 +32,4 @@ returns-in-Verify-clause-answered g c =
 pub returns-in-Compile-clause-answered : goal.returns-in-Compile-clause-answered
 returns-in-Compile-clause-answered g c =
     let y = g.Y.Yard.returned c.args.yard.now in
-    answered_as c.args.command.now (m.Compile c.as_slice.result.now) c.args.text.now (yards y y) c.compile.result _ c.compile.ensures
+    answered_as c.args.command.now (m.Compile c.as_slice.result.now) c.args.text.now (yards y y) c.compile.result (c.in-Compile.is ∙ ap m.Compile (sym c.as_slice.ensures)) c.compile.ensures

@@ -1,0 +1,11 @@
+pub mod Lists
+pub mod Regions
+pub mod Firsts
+pub mod Plans
+pub mod Scenes
+pub mod Belonging
+pub mod FirstWorld
+pub mod OneEvent
+pub mod Holding
+pub mod Replays
+pub mod Whole

@@ -1,0 +1,25 @@
+use Rattle.std.proofs.Common.{◌∷◌, [], map, ap, ◌∙◌, subst, sym}
+use Rattle.std.specs.Prelude.{All, IsTrue}
+use Rattle.std.proofs.lemmas.List.{map-append}
+use Rattle.std.proofs.lemmas.List.Elements.{All-append, All-cons, All-nil}
+use Rattle.node_core.specs.Part.{IsRegions, new_part}
+use Rattle.scenario_text.specs.declared.scenario.Scenario.{Scenario}
+use Rattle.scenario_run.specs.Start.{regions_on}
+use Rattle.replay.proofs.Regions.{regions_fit}
+use Rattle.replay.proofs.Firsts.{one_part, part_is}
+use Rattle.replay.proofs.parts.parts_of.Goals as goal
+
+pub make_part-requires-clause-regions : goal.make_part-requires-clause-regions
+make_part-requires-clause-regions g c = subst IsRegions (sym (c.in_ok-regions.ensures ∙ ap (regions_on c.parts.n 0) c.as_slice.ensures)) (regions_fit c.args.plan.now.nodes c.parts.n c.args.plan.now.regions c.requires.regions)
+
+pub parts-preserved : goal.parts-preserved
+parts-preserved g c =
+    let s : Scenario = record { checked = c.args.built.now.checked; plan = c.args.plan.now } in
+    let made = map g.Y.Part.NodePart.state c.parts.parts.items in
+    record {
+      parts = one_part s c.args.built.now.images c.parts.n c.args.plan.now.nodes made (map g.Y.Part.NodePart.state c.push.new.self.items) _ (g.Y.Part.NodePart.state c.in_ok-part.part) c.parts-test.true c.parts.invariant.parts
+          (ap (map g.Y.Part.NodePart.state) c.in-Ok.ensures.items ∙ map-append g.Y.Part.NodePart.state c.parts.parts.items (c.in_ok-part.part ∷ []))
+          (c.in_ok-part.ensures.made ∙ ap (λ k. new_part k c.in_ok-copy_images.field-0 c.args.plan.now.slots) (c.in_ok-regions.ensures ∙ ap (regions_on c.parts.n 0) c.as_slice.ensures) ∙ ap (λ k. new_part (regions_on c.parts.n 0 c.args.plan.now.regions) k c.args.plan.now.slots) c.in_ok-copy_images.ensures ∙ part_is s c.args.built.now.images c.args.built.now.compiled c.parts.n);
+      plain = subst (All (λ p. IsTrue (g.Y.Part.NodePart.plain p))) (sym c.in-Ok.ensures.items) (All-append (λ p. IsTrue (g.Y.Part.NodePart.plain p)) c.parts.parts.items (c.in_ok-part.part ∷ []) c.parts.invariant.plain (All-cons (λ p. IsTrue (g.Y.Part.NodePart.plain p)) c.in_ok-part.part [] c.in_ok-part.ensures.plain (All-nil (λ p. IsTrue (g.Y.Part.NodePart.plain p)))));
+      returned = c.make_part.ensures.returned ∙ c.parts.invariant.returned;
+    }

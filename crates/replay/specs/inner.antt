@@ -1,0 +1,6 @@
+pub mod Clients
+pub mod Parts
+pub mod First
+pub mod Held
+pub mod Runs
+pub mod Made
