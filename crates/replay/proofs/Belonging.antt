@@ -20,8 +20,9 @@ use Rattle.scenario_run.proofs.Codes.{code_is, begin_is}
 use Rattle.scenario_run.proofs.Lists.{all_at}
 use Rattle.world_core.specs.Scene.{Member, requests_in}
 use Rattle.world_core.specs.Runs.{IsSceneOf, IsRequestOf}
-use Rattle.replay.specs.inner.Clients.{first_client}
-use Rattle.replay.specs.inner.First.{first_switch, first_scene}
+use Rattle.scenario_parts.specs.Clients.{first_client}
+use Rattle.scenario_parts.specs.Switch.{first_switch}
+use Rattle.replay.specs.inner.First.{first_scene}
 use Rattle.replay.proofs.Scenes.{client_at, client_is, own_found, IsOwn, home_of, numbered_all}
 
 sizes_twice : (p : Program) (iters : List Iter) → map (λ it. size_of (record_fields p.records it)) iters ≡ map (λ (z : ProgramSizes). z.record_size) (map (sizes_of p) iters)

@@ -10,11 +10,12 @@ use Rattle.client_core.specs.Requests.{ClientState}
 use Rattle.pulse_codegen.specs.Compiled.{CompilesAll}
 use Rattle.scenario_text.specs.declared.scenario.Scenario.{Scenario}
 use Rattle.world_core.specs.Scene.{Member, Scene}
-use Rattle.replay.specs.inner.Clients.{first_clients}
-use Rattle.replay.specs.inner.Parts.{first_parts}
-use Rattle.replay.specs.inner.First.{first_switch, first_scene}
+use Rattle.scenario_parts.specs.Clients.{first_clients}
+use Rattle.scenario_parts.specs.Parts.{first_parts}
+use Rattle.scenario_parts.specs.Switch.{first_switch}
+use Rattle.replay.specs.inner.First.{first_scene}
 use Rattle.replay.specs.inner.Made.{IsMade}
-use Rattle.replay.proofs.Lists.{all_head, all_tail}
+use Rattle.scenario_parts.proofs.Lists.{all_head, all_tail}
 use Rattle.replay.proofs.Scenes.{world_is, parts_same, members_count}
 use Rattle.replay.proofs.Belonging.{ArgumentsFit, belongs}
 

@@ -1,7 +1,3 @@
-pub mod Lists
-pub mod Regions
-pub mod Firsts
-pub mod Plans
 pub mod Scenes
 pub mod Belonging
 pub mod FirstWorld

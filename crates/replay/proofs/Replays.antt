@@ -1,5 +1,5 @@
 -- What was run and told is the replay of the scenario.
-use Rattle.std.proofs.Common.{◌≡◌, ℕ, List, length}
+use Rattle.std.proofs.Common.{◌≡◌, List, length}
 use Rattle.run_laws.specs.Flat.{Flat}
 use Rattle.drain_run.specs.Drain.{Drains}
 use Rattle.drain_run.proofs.Drained.{drain_drains}
@@ -15,8 +15,8 @@ use Rattle.scenario_run.proofs.Settings.{setting_is}
 use Rattle.scenario_run.proofs.Worlds.{start_is}
 use Rattle.run_explained.proofs.Explained.{run_is_explained}
 use Rattle.node_core.specs.Part.{PartState}
-use Rattle.report_text.specs.Report as text
-use Rattle.replay.specs.Report.{IsReplay, AreNodesOf, outcome_of, traces_of}
+use Rattle.replay.specs.declared.scenario.Replayed.{Replayed}
+use Rattle.replay.specs.Report.{IsReplayed, AreNodesOf, outcome_of, traces_of}
 
 abbrev pub flat_of : (s : Scenario) → IsRunnable s → Flat
 flat_of s h = flat_start (setting_of s h) (start_of s)
@@ -25,15 +25,17 @@ pub first_run : (s : Scenario) (h : IsRunnable s) → IsRun (setting_of s h) (fl
 first_run s h = start_is_run (setting_of s h) (start_of s) (setting_is s h) (start_is s h)
 
 -- the world after the events and the drain
-pub is_replay : (s : Scenario) (h : IsRunnable s) (v : WorldState) (bytes : List ℕ) (parts : List PartState)
+pub is_replayed : (s : Scenario) (h : IsRunnable s) (v : WorldState) (left : Replayed) (parts : List PartState)
     → Drains (setting_of s h) (event_run (setting_of s h) (start_of s) (s.plan).events) v → IsRun (setting_of s h) (flat_of s h) v
     → length v.asking ≡ length (s.plan).requests
-    → bytes ≡ text.report (outcome_of s.plan (traces_of (setting_of s h) (start_of s) (s.plan).events) v) → AreNodesOf s v parts → IsReplay s bytes parts
-is_replay s h v bytes parts d run long told nodes = record {
+    → left.outcome ≡ outcome_of s.plan (traces_of (setting_of s h) (start_of s) (s.plan).events) v → left.letters ≡ length v.letters
+    → AreNodesOf s v parts → IsReplayed s left parts
+is_replayed s h v left parts d run long told sent nodes = record {
   runnable = h;
   world = v;
   ran = record { drains = d };
-  report = told;
+  outcome = told;
+  letters = sent;
   nodes = nodes;
   explained = run_is_explained s h v long run;
   answered = (drain_drains (setting_of s h) _ v d).done;

@@ -20,10 +20,10 @@ use Rattle.scenario_run.proofs.Lists.{all_at}
 use Rattle.world_core.specs.Scene.{Member, node_of, asking_in, request_at, askings, world_of}
 use Rattle.world_core.specs.inner.Clients.{HasAt}
 use Rattle.world_core.specs.inner.Fits.{IsScene}
-use Rattle.replay.specs.inner.Clients.{requests_by, first_client, first_clients}
-use Rattle.replay.specs.inner.Parts.{with_images, first_parts}
+use Rattle.scenario_parts.specs.Clients.{requests_by, first_client, first_clients}
+use Rattle.scenario_parts.specs.Parts.{with_images, first_parts}
 use Rattle.replay.specs.inner.First.{first_scene}
-use Rattle.replay.proofs.Lists.{all_head, all_tail}
+use Rattle.scenario_parts.proofs.Lists.{all_head, all_tail}
 
 -- ---- nodes
 

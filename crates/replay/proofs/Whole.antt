@@ -13,8 +13,6 @@ use Rattle.drain_run.specs.Drain.{Drains}
 use Rattle.drain_run.proofs.Kept.{drain_keeps_run}
 use Rattle.event_run.specs.World.{event_run}
 use Rattle.event_run.specs.Always.{IsRun}
-use Rattle.report_text.specs.declared.outcome.Outcome.{Outcome}
-use Rattle.report_text.specs.Report as text
 use Rattle.scenario_text.specs.declared.plan.PlanRegion.{PlanRegion}
 use Rattle.scenario_text.specs.declared.scenario.Scenario.{Scenario}
 use Rattle.scenario_text.specs.Accepted.{IsRunnable, IsEventOf}
@@ -22,18 +20,20 @@ use Rattle.scenario_run.specs.Setting.{setting_of}
 use Rattle.scenario_run.specs.Start.{start_of}
 use Rattle.scenario_run.proofs.Settings.{setting_is, has_numbers}
 use Rattle.world_core.specs.Scene.{Member, Scene, node_of, world_of}
+use Rattle.world_core.specs.Letters.{letter_view}
 use Rattle.world_core.specs.Runs.{IsSceneOf}
 use Rattle.world_core.specs.Drains.{CanRun, DrainSo}
 use Rattle.world_core.specs.Drains as drained
 use Rattle.world_core.specs.inner.Fits.{IsScene}
-use Rattle.replay.specs.Report.{IsReplay, AreNodesOf, out_regions, traces_of}
+use Rattle.replay.specs.declared.scenario.Replayed.{Replayed}
+use Rattle.replay.specs.Report.{IsReplayed, AreNodesOf, out_regions, traces_of}
 use Rattle.replay.specs.Answer.{GivesBack}
 use Rattle.replay.specs.inner.Held.{AreHeld}
 use Rattle.replay.specs.inner.Made.{IsMade}
 use Rattle.replay.specs.inner.Runs.{Lasts, RunsEvents}
 use Rattle.replay.proofs.OneEvent.{asking_count}
 use Rattle.replay.proofs.Holding.{are_held}
-use Rattle.replay.proofs.Replays.{flat_of, first_run, is_replay}
+use Rattle.replay.proofs.Replays.{flat_of, first_run, is_replayed}
 
 -- ---- nodes that are given back
 
@@ -131,14 +131,18 @@ each_means : (s : Scenario) (images : List Image) (members : List Member) → Co
 each_means s images [] c h = tt
 each_means s images (m ∷ members) c h = (subst (CompilesAll s.checked) (sym h.0) c, each_means s images members c h.1)
 
--- the report and the nodes
-pub whole : (s : Scenario) (h : IsRunnable s) (images : List Image) (w v x : Scene) (traces : List Trace) (outcome : Outcome) (bytes : List ℕ) (parts : List PartState)
+sent_letters : (x : Scene) → length (world_of x).letters ≡ length x.letters
+sent_letters x = length-map x.letters letter_view
+
+-- what is told of a run, and the nodes
+pub whole : (s : Scenario) (h : IsRunnable s) (images : List Image) (w v x : Scene) (traces : List Trace) (left : Replayed) (parts : List PartState)
     → CompilesAll s.checked images → IsMade s images w → RunsEvents w v (s.plan).events (s.plan).trace traces → DrainSo v x → Lasts w x → IsScene x
-    → outcome ≡ record { trace = traces; order = x.order; answers = map answer_of (world_of x).asking; regions = out_regions (world_of x) 0 (s.plan).regions }
-    → bytes ≡ text.report outcome → parts ≡ map (λ (m : Member). m.part) x.nodes → IsReplay s bytes parts
-whole s h images w v x traces outcome bytes parts compiled m r d l scene o b p =
+    → left.outcome ≡ record { trace = traces; order = x.order; answers = map answer_of (world_of x).asking; regions = out_regions (world_of x) 0 (s.plan).regions }
+    → left.letters ≡ length x.letters → parts ≡ map (λ (m : Member). m.part) x.nodes → IsReplayed s left parts
+whole s h images w v x traces left parts compiled m r d l scene o n p =
     let y = ended s h images w v x traces m r d in
     let same : Each (λ (k : Member). k.part.images ≡ images) x.nodes = subst (λ i. Each (λ (k : Member). k.part.images ≡ i) x.nodes) (l.images ∙ m.copied) scene.nodes in
-    is_replay s h (world_of x) bytes parts y.drains y.run (asking_count x ∙ requests_after s images w x m l)
-    (b ∙ ap text.report o ∙ ap (λ t. text.report (record { trace = t; order = x.order; answers = map answer_of (world_of x).asking; regions = out_regions (world_of x) 0 (s.plan).regions })) y.told)
+    is_replayed s h (world_of x) left parts y.drains y.run (asking_count x ∙ requests_after s images w x m l)
+    (o ∙ ap (λ t. record { trace = t; order = x.order; answers = map answer_of (world_of x).asking; regions = out_regions (world_of x) 0 (s.plan).regions }) y.told)
+    (n ∙ sym (sent_letters x))
     (subst (AreNodesOf s (world_of x)) (sym p) (record { nodes = nodes_twice x.nodes; images = each_means s images x.nodes compiled same }))

@@ -1,5 +1,5 @@
 -- The report of a scenario's run, and what is said of it.
-use Rattle.std.specs.Prelude.{◌≡◌, ℕ, false, suc, List, [], ◌∷◌, map, Option, Some, None, slice_get, if◌then◌else◌}
+use Rattle.std.specs.Prelude.{◌≡◌, ℕ, false, suc, List, [], ◌∷◌, length, map, Option, Some, None, slice_get, if◌then◌else◌}
 use Rattle.pulse_base.specs.declared.event.Event.{Event}
 use Rattle.pulse_base.specs.declared.event.Trace.{Trace}
 use Rattle.run_rules.specs.Node.{NodeState}
@@ -21,6 +21,7 @@ use Rattle.run_explained.specs.Explained.{IsExplained}
 use Rattle.report_text.specs.declared.outcome.OutRegion.{OutRegion}
 use Rattle.report_text.specs.declared.outcome.Outcome.{Outcome}
 use Rattle.report_text.specs.Report as text
+use Rattle.replay.specs.declared.scenario.Replayed.{Replayed}
 
 -- ---- what a report tells of a world
 
@@ -57,13 +58,20 @@ pub record AreNodesOf (s : Scenario) (w : WorldState) (parts : List PartState) :
   pub nodes : map (λ p. p.node) parts ≡ w.nodes
   pub images : Each (λ p. CompilesAll s.checked p.images) parts
 
--- The bytes are the report of the scenario's run, and these were its nodes. The order in it is legal, the memory in it is that of the
--- order's flat run, and each answer is silent or due: no request waits.
-pub record IsReplay (s : Scenario) (bytes : List ℕ) (parts : List PartState) : Type 0 where
+-- This was left by the scenario's run, and these were its nodes. The order in it is legal, the memory in it is that of the order's
+-- flat run, and each answer is silent or due: no request waits.
+pub record IsReplayed (s : Scenario) (r : Replayed) (parts : List PartState) : Type 0 where
   pub runnable : IsRunnable s
   pub world : WorldState
   pub ran : Ran s runnable world
-  pub report : bytes ≡ text.report (outcome_of s.plan (traces_of (setting_of s runnable) (start_of s) (s.plan).events) world)
+  pub outcome : r.outcome ≡ outcome_of s.plan (traces_of (setting_of s runnable) (start_of s) (s.plan).events) world
+  pub letters : r.letters ≡ length world.letters
   pub nodes : AreNodesOf s world parts
   pub explained : IsExplained s world
   pub answered : (r : ℕ) → waits world r ≡ false
+
+-- the bytes are the report of that
+pub record IsReplay (s : Scenario) (bytes : List ℕ) (parts : List PartState) : Type 0 where
+  pub left : Replayed
+  pub replayed : IsReplayed s left parts
+  pub report : bytes ≡ text.report left.outcome

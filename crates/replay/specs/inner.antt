@@ -1,5 +1,3 @@
-pub mod Clients
-pub mod Parts
 pub mod First
 pub mod Held
 pub mod Runs

@@ -2,15 +2,14 @@
 
 ghost use Rattle.std.specs.Prelude.{◌≡◌, map, All, IfOk, IsTrue};
 ghost use Rattle.scenario_text.specs.Accepted.{IsRunnable};
+ghost use Rattle.scenario_parts.specs.Parts.{first_parts};
 ghost use Rattle.replay.specs.inner.Made.{IsMade};
-ghost use Rattle.replay.specs.inner.Parts.{first_parts};
 
 use crate::arguments::arguments_fit;
-use crate::clients::{clients_of, homes_of};
-use crate::switch::{owners_of, switch_of};
 use node_core::NodePart;
 use pulse_base::Memory;
 use pulse_codegen::Built;
+use scenario_parts::{clients_of, homes_of, owners_of, switch_of};
 use scenario_text::Plan;
 use std::alloc::Global;
 use world_core::World;
@@ -28,7 +27,7 @@ pub(crate) fn make<N: NodePart>(
     ensures { IfOk result (λ w. IsMade (record { checked = (built.now).checked; plan = plan.now }) (built.now).images w) }
 {
     arguments_fit(plan.requests.as_slice());
-    let switch = switch_of(alloc, built.checked(), plan)?;
+    let switch = switch_of(alloc, built, plan)?;
     let owners = owners_of(alloc, plan.regions.as_slice())?;
     let images = built.copy_images(alloc)?;
     let homes = homes_of(alloc, plan.requests.as_slice())?;

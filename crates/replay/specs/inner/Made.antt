@@ -7,7 +7,7 @@ use Rattle.scenario_run.specs.Setting.{setting_of}
 use Rattle.scenario_run.specs.Start.{start_of}
 use Rattle.world_core.specs.Scene.{Scene, world_of}
 use Rattle.world_core.specs.Runs.{IsSceneOf}
-use Rattle.replay.specs.inner.First.{first_switch}
+use Rattle.scenario_parts.specs.Switch.{first_switch}
 use Rattle.replay.specs.inner.Runs.{AllPlain}
 
 -- it is the first world of the scenario and belongs to its setting, with these images, and nothing was sent

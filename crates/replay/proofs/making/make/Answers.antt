@@ -1,21 +1,13 @@
 use Rattle.std.proofs.Common.{List, map, sym, ap, ◌∙◌, subst}
 use Rattle.pulse_base.specs.declared.plan.RequestPlan.{RequestPlan}
-use Rattle.iter_syntax.specs.declared.tree.Program.{Program}
 use Rattle.scenario_text.specs.declared.scenario.Scenario.{Scenario}
 use Rattle.world_core.specs.Scene.{Member}
 use Rattle.world_core.specs.inner.Fits.{IsScene}
-use Rattle.replay.specs.inner.First.{first_switch}
 use Rattle.replay.specs.inner.Made.{IsMade}
-use Rattle.replay.proofs.Plans.{plans_are}
 use Rattle.replay.proofs.Scenes.{scene_is, parts_same}
 use Rattle.replay.proofs.Belonging.{ArgumentsFit}
 use Rattle.replay.proofs.FirstWorld.{same_scene, made_is}
 use Rattle.replay.proofs.making.make.Goals as goal
-
-pub clients_of-requires-clause-plans : goal.clients_of-requires-clause-plans
-clients_of-requires-clause-plans g c =
-    let s : Scenario = record { checked = c.args.built.now.checked; plan = c.args.plan.now } in
-    plans_are s c.args.built.now.images c.args.built.now.compiled c.requires.runnable.requests
 
 pub of-requires-clause-fits : goal.of-requires-clause-fits
 of-requires-clause-fits g c =
@@ -24,7 +16,7 @@ of-requires-clause-fits g c =
     let members : List Member = map (λ n. record { part = g.N.NodePart.state n; rest = g.N.NodePart.rest n; plain = g.N.NodePart.plain n }) c.args.nodes.items in
     subst IsScene
     (sym (same_scene s images members c.in_ok-switch.switch c.in_ok-images.images c.in_ok-homes.homes c.in_ok-clients.clients.items
-    (c.in_ok-switch.ensures ∙ ap (λ (p : Program). first_switch (record { checked = p; plan = c.args.plan.now })) c.checked.ensures)
+    c.in_ok-switch.ensures
     c.in_ok-images.ensures
     (c.in_ok-homes.ensures ∙ ap (map (λ (q : RequestPlan). q.client)) c.as_slice-3.ensures)
     c.in_ok-clients.ensures))
@@ -37,7 +29,7 @@ returns g c =
     let members : List Member = map (λ n. record { part = g.N.NodePart.state n; rest = g.N.NodePart.rest n; plain = g.N.NodePart.plain n }) c.args.nodes.items in
     subst (IsMade s images)
     (sym (c.of.ensures ∙ same_scene s images members c.in_ok-switch.switch c.in_ok-images.images c.in_ok-homes.homes c.in_ok-clients.clients.items
-    (c.in_ok-switch.ensures ∙ ap (λ (p : Program). first_switch (record { checked = p; plan = c.args.plan.now })) c.checked.ensures)
+    c.in_ok-switch.ensures
     c.in_ok-images.ensures
     (c.in_ok-homes.ensures ∙ ap (map (λ (q : RequestPlan). q.client)) c.as_slice-3.ensures)
     c.in_ok-clients.ensures))

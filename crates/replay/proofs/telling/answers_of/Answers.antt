@@ -2,7 +2,7 @@ use Rattle.std.proofs.Common.{◌≤◌, length, map, ap, ◌∙◌, arith}
 use Rattle.std.proofs.lemmas.List.{take_all}
 use Rattle.run_rules.specs.Client.{answer_of}
 use Rattle.world_core.specs.Scene.{world_of}
-use Rattle.replay.proofs.Lists.{one_more}
+use Rattle.scenario_parts.proofs.Lists.{one_more}
 use Rattle.replay.proofs.OneEvent.{asking_count}
 use Rattle.replay.proofs.telling.answers_of.Goals as goal
 

@@ -1,5 +1,0 @@
-use Rattle.std.proofs.Common.{◌≡◌, map, take}
-use Rattle.replay.proofs.clients.homes_of.Given as goal
-
-abbrev pub invariant-homes : goal.invariant-homes
-invariant-homes l = l.homes ≡ map (λ q. q.client) (take l.request-index l.requests)

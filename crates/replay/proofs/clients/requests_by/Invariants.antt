@@ -1,6 +1,0 @@
-use Rattle.std.proofs.Common.{◌≡◌, take}
-use Rattle.replay.specs.inner.Clients.{requests_by}
-use Rattle.replay.proofs.clients.requests_by.Given as goal
-
-abbrev pub invariant-requests : goal.invariant-requests
-invariant-requests l = l.own ≡ requests_by l.client (take l.request-index l.requests)

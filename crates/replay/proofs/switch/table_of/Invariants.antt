@@ -1,5 +1,0 @@
-use Rattle.std.proofs.Common.{◌≡◌, map, take}
-use Rattle.replay.proofs.switch.table_of.Given as goal
-
-abbrev pub invariant-spans : goal.invariant-spans
-invariant-spans l = l.spans ≡ map (λ r. r.span) (take l.region-index l.regions)

@@ -1,0 +1,4 @@
+pub mod Lists
+pub mod Regions
+pub mod Firsts
+pub mod Plans

@@ -1,0 +1,3 @@
+pub mod Parts
+pub mod Switch
+pub mod Clients
