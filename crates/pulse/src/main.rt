@@ -3,7 +3,8 @@
 
 use node_core::NodeYard;
 use pulse_base::{ReaderSource, Status, WriterSink, write_all};
-use pulse_cli::{AbsentKids, AbsentNet, pulse};
+use pulse_cli::pulse;
+use pulse_net::{Children, UdpLink};
 use std::alloc::AllocError;
 use std::env;
 use std::io::ErrorKind;
@@ -14,8 +15,8 @@ fn main(rt: HostRuntime) -> ExitCode {
     let mut input = ReaderSource::new(rt.stdin());
     let mut out = WriterSink::new(rt.stdout());
     let mut err = WriterSink::new(rt.stderr());
-    let mut net = AbsentNet::new();
-    let mut kids = AbsentKids::new();
+    let mut net = UdpLink::new(&rt);
+    let mut kids = Children::new(&rt);
     let mut yard = NodeYard::new(rt.alloc());
     let status = match words(&rt) {
         Ok(words) => pulse(

@@ -1,7 +1,6 @@
 pub mod Answers
 pub mod Ending
 pub mod Lines
+pub mod Sides
 pub mod Steps
-pub mod Words
-pub mod WordsRead
-pub mod Yards
+pub mod Uses

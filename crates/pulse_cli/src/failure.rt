@@ -11,6 +11,7 @@ use code_image::ImageFault;
 use flat_walk::WalkFault;
 use iter_check::CheckKind;
 use pulse_base::{Bytes, Memory, Sink, Status, write_all};
+use pulse_process::FormLimit;
 use scenario_text::DocFault;
 use std::alloc::Global;
 
@@ -19,8 +20,10 @@ use std::alloc::Global;
 pub(crate) enum Refusal {
     /// The document has no report of a walk. The fault is never want of memory.
     Walk(WalkFault),
-    /// The first failing check of a document that is to be replayed. The fault is never want of memory.
-    Replay(DocFault),
+    /// The first failing check of a document. The fault is never want of memory.
+    Document(DocFault),
+    /// What an accepted document lacks, or has too much of.
+    Form(FormLimit),
     /// The input has more than 67,108,864 bytes.
     Long,
     /// The text of a program has more than 65,536 bytes.
@@ -52,6 +55,12 @@ pub(crate) enum Failure {
     Refused(Refusal),
     /// A write of the output failed.
     Write,
+    /// A call on the link failed.
+    Link,
+    /// All turns were used. The output was written.
+    Turns,
+    /// A child could not be started or waited for.
+    Child,
 }
 
 impl From<Memory> for Failure {
@@ -79,7 +88,10 @@ impl Refusal {
     {
         match self {
             Refusal::Walk(fault) => fault.words(alloc),
-            Refusal::Replay(fault) => fault.words(alloc),
+            Refusal::Document(fault) => fault.words(alloc),
+            Refusal::Form(limit) => {
+                Ok(bytes_of(format!(in alloc; "document limit {}", limit.word())?))
+            }
             Refusal::Long => Bytes::from_slice(alloc, b"document long"),
             Refusal::ProgramLimit => Bytes::from_slice(alloc, b"document limit program"),
             Refusal::Lex(at) => Ok(bytes_of(format!(in alloc; "program lex {at}")?)),
@@ -111,6 +123,9 @@ pub(crate) fn fail<E: Sink>(alloc: Global, err: &mut E, failure: Failure) -> Sta
         Failure::Read => say(err, b"pulse: read\n", Status::ReadFault),
         Failure::Refused(refusal) => refuse(alloc, err, refusal),
         Failure::Write => say(err, b"pulse: write\n", Status::WriteFault),
+        Failure::Link => say(err, b"pulse: link\n", Status::LinkFault),
+        Failure::Turns => say(err, b"pulse: turns\n", Status::TurnsUsed),
+        Failure::Child => say(err, b"pulse: child\n", Status::ChildFault),
     }
 }
 

@@ -2,11 +2,9 @@
 
 ghost use Rattle.std.specs.Prelude.{◌≡◌, ◌≢◌, IfOk, IfErr};
 ghost use Rattle.code_image.specs.Spelling.{Spells};
-ghost use Rattle.pulse_cli.specs.Answers.{verified_text};
-ghost use Rattle.pulse_cli.specs.Steps.{Answered, IsOfImage};
-ghost use Rattle.pulse_cli.specs.Yards.{Yards};
+ghost use Rattle.pulse_cli.specs.Answers.{AnswersList, AnswersVerify, verified_text};
+ghost use Rattle.pulse_cli.specs.Steps.{Gives, IsOfImage};
 
-use crate::command::Command;
 use crate::failure::{Failure, Refusal};
 use code_image::{Image, ImageFault, decode, listing};
 use itoa::Buffer;
@@ -15,7 +13,7 @@ use std::alloc::Global;
 
 /// The listing of an image.
 pub(crate) fn list(alloc: Global, bytes: &[u8]) -> Result<Bytes, Failure>
-    ensures { (y : Yards) → Answered Command.List bytes.now y result }
+    ensures { Gives (AnswersList bytes.now) result }
 {
     let image = match read_image(alloc, bytes) {
         Ok(image) => image,
@@ -29,7 +27,7 @@ pub(crate) fn list(alloc: Global, bytes: &[u8]) -> Result<Bytes, Failure>
 
 /// How many instructions the segments of an image have, all of them verified.
 pub(crate) fn verify(alloc: Global, bytes: &[u8]) -> Result<Bytes, Failure>
-    ensures { (y : Yards) → Answered Command.Verify bytes.now y result }
+    ensures { Gives (AnswersVerify bytes.now) result }
 {
     let image = match read_image(alloc, bytes) {
         Ok(image) => image,

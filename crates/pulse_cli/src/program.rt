@@ -2,11 +2,9 @@
 
 ghost use Rattle.std.specs.Prelude.{◌≤◌, ◌<◌, length, IfOk, IfErr};
 ghost use Rattle.iter_syntax.specs.Parsed.{IsProgramOf};
-ghost use Rattle.pulse_cli.specs.Answers.{HasProgram, SpellsIter};
-ghost use Rattle.pulse_cli.specs.Steps.{Answered, IsOfProgram};
-ghost use Rattle.pulse_cli.specs.Yards.{Yards};
+ghost use Rattle.pulse_cli.specs.Answers.{AnswersCheck, AnswersCompile, AnswersFormat, HasProgram, SpellsIter};
+ghost use Rattle.pulse_cli.specs.Steps.{Gives, IsOfProgram};
 
-use crate::command::Command;
 use crate::failure::{Failure, Refusal};
 use code_image::encode;
 use iter_check::{CheckError, Checked, check};
@@ -20,7 +18,7 @@ const MOST_TEXT: usize = 65_536;
 
 /// The printed form of the program of a text.
 pub(crate) fn format(alloc: Global, text: &[u8]) -> Result<Bytes, Failure>
-    ensures { (y : Yards) → Answered Command.Format text.now y result }
+    ensures { Gives (AnswersFormat text.now) result }
 {
     let checked = match checked_program(alloc, text) {
         Ok(checked) => checked,
@@ -34,7 +32,7 @@ pub(crate) fn format(alloc: Global, text: &[u8]) -> Result<Bytes, Failure>
 
 /// The lines of the records and iterators of the program of a text.
 pub(crate) fn lay_out(alloc: Global, text: &[u8]) -> Result<Bytes, Failure>
-    ensures { (y : Yards) → Answered Command.Check text.now y result }
+    ensures { Gives (AnswersCheck text.now) result }
 {
     let checked = match checked_program(alloc, text) {
         Ok(checked) => checked,
@@ -48,7 +46,7 @@ pub(crate) fn lay_out(alloc: Global, text: &[u8]) -> Result<Bytes, Failure>
 
 /// The bytes of an image that means the iterator of a name.
 pub(crate) fn compile(alloc: Global, text: &[u8], name: &[u8]) -> Result<Bytes, Failure>
-    ensures { (y : Yards) → Answered (Command.Compile name.now) text.now y result }
+    ensures { Gives (AnswersCompile name.now text.now) result }
 {
     let checked = match checked_program(alloc, text) {
         Ok(checked) => checked,

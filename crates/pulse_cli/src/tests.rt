@@ -1,12 +1,14 @@
 // Walks over the top call, and every way in which it fails.
 
 mod answers;
+mod processes;
 
 ghost use Rattle.std.specs.Prelude.{◌≤◌};
 
-use crate::{AbsentKids, AbsentNet, pulse};
+use crate::pulse;
 use node_core::MemYard;
 use pulse_base::{Bytes, MemSink, MemSource, Numbers, Status};
+use pulse_net::{Items, MemLink, MemSpawner};
 use std::alloc::Global;
 use std::test::Fail;
 
@@ -190,7 +192,8 @@ fn run(
     let mut source = MemSource::make(bytes, piece, Numbers::from_slice(alloc, fails.input)?);
     let mut out = MemSink::make(alloc, 10_000, 4, Numbers::from_slice(alloc, fails.out)?)?;
     let mut err = MemSink::make(alloc, 100, 100, Numbers::from_slice(alloc, fails.err)?)?;
-    let (mut net, mut kids) = (AbsentNet::new(), AbsentKids::new());
+    let mut net = MemLink::make(alloc, Items::new(alloc), Numbers::new(alloc));
+    let mut kids = MemSpawner::make(alloc, Numbers::new(alloc), Numbers::new(alloc));
     let mut yard = MemYard::new(alloc);
     let status = pulse(
         alloc,
@@ -244,36 +247,15 @@ const READ_AND_LINE: Fails = Fails {
 };
 
 // Words that are no command, behind what is wrong with them.
-#[rattlefmt::skip]
-const NO_COMMANDS: [(&str, &[&str]); 6] = [
+const NO_COMMANDS: [(&str, &[&str]); 3] = [
     ("no words", &[]),
-    ("an empty word", &[""]),
-    ("an option", &["--help"]),
-    ("help", &["help", "walk"]),
-    ("a command behind two hyphens", &["--", "walk"]),
-    ("two words", &["walk", "walk"]),
-];
-
-// The same, of words that begin with `compile`.
-#[rattlefmt::skip]
-const NO_NAMES: [(&str, &[&str]); 9] = [
-    ("no name", &["compile"]),
-    ("two names", &["compile", "find", "find"]),
-    ("a name behind two hyphens", &["compile", "--", "find"]),
-    ("a name with a hyphen in front", &["compile", "-find"]),
-    ("a hyphen in a name", &["compile", "fi-nd"]),
-    ("a capital in a name", &["compile", "finD"]),
-    ("a digit before a name", &["compile", "1find"]),
-    ("an empty name", &["compile", ""]),
-    ("a name of 33 bytes", &["compile", "a2345678901234567890123456789012_"]),
+    ("help", &["help"]),
+    ("no turns", &["cluster", "0"]),
 ];
 
 #[test]
 fn tells_words_that_are_no_command(rt: HostRuntime) -> Result<(), Fail> {
     for (wrong, words) in NO_COMMANDS {
-        is_no_command(&rt, wrong, words)?;
-    }
-    for (wrong, words) in NO_NAMES {
         is_no_command(&rt, wrong, words)?;
     }
     Ok(())

@@ -1,109 +1,98 @@
 // The top call.
 
-ghost use Rattle.std.specs.Prelude.{◌≡◌, ◌≢◌, OnErr, map};
+ghost use Rattle.std.specs.Prelude.{◌≡◌, ◌≢◌, Err, IfErr, OnErr, map};
 ghost use Rattle.std.specs.String.{string_bytes};
-ghost use Rattle.pulse_cli.specs.Ending.{seen, Comes, Ends};
-ghost use Rattle.pulse_cli.specs.Steps.{ReadsInput, Answered};
-ghost use Rattle.pulse_cli.specs.Words.{IsCommand, IsSomeCommand};
-ghost use Rattle.pulse_cli.specs.Yards.{yards};
+ghost use Rattle.pulse_cli.specs.Ending.{seen, Comes, Ends, IsEarly};
+ghost use Rattle.pulse_cli.specs.Sides.{change};
+ghost use Rattle.pulse_cli.specs.Steps.{ComesEarly};
+ghost use Rattle.pulse_cli.specs.Uses.{Names, reads_input, uses_kids, uses_net, uses_yard};
+ghost use Rattle.pulse_words.specs.Words.{IsSomeCommand};
 
-use crate::command::{Command, read_words};
-use crate::document::{replay_document, walk_document};
-use crate::failure::{Failure, Refusal, fail};
-use crate::images::{list, verify};
-use crate::program::{compile, format, lay_out};
+use crate::answer::{answer, command_of};
+use crate::failure::{Failure, fail};
+use crate::input::read_input;
 use node_core::Yard;
-use pulse_base::{Bytes, Link, ReadAll, Sink, Source, Spawner, Status, read_all, write_all};
+use pulse_base::{Link, Sink, Source, Spawner, Status, write_all};
 use std::alloc::Global;
-
-/// The most bytes of an input.
-pub const MOST_INPUT: usize = 67_108_864;
 
 /// Runs the command that the words name, without the program's own name, and answers its status. A status other than
 /// `Ok` has its one line on `err`, and a failed write of that line makes the status `WriteFault`. Nothing is written to
-/// `out` but the whole output, or a front of it where a write failed. `net` and `kids` are not called. `yard` makes the
-/// nodes of a replay, and is given them back.
+/// `out` but the whole output, or a front of it where a write failed. An end of the outside that the command does not need is not
+/// called: `yard` makes the nodes of a run and is given them back, `net` carries the frames of a process, and `kids` are the
+/// processes of a cluster.
 pub fn pulse<R: Source, W: Sink, E: Sink, L: Link, S: Spawner, Y: Yard>(
     alloc: Global,
     words: &[String],
     input: &mut R,
     out: &mut W,
     err: &mut E,
-    _net: &mut L,
-    _kids: &mut S,
+    net: &mut L,
+    kids: &mut S,
     yard: &mut Y,
 ) -> Status
     ensures ends { Ends (map string_bytes words.now)
         (seen (R.left input.old) (R.faults input.old)) (seen (R.left input.new) (R.faults input.new))
         (seen (W.taken out.old) (W.faults out.old)) (seen (W.taken out.new) (W.faults out.new))
         (seen (E.taken err.old) (E.faults err.old)) (seen (E.taken err.new) (E.faults err.new))
-        (yards (Y.returned yard.old) (Y.returned yard.new)) result }
-    ensures untouched { ¬ IsSomeCommand (map string_bytes words.now) → (input.new ≡ input.old) × (out.new ≡ out.old) }
-    ensures nothing_written { result ≢ Status.Ok → result ≢ Status.WriteFault → out.new ≡ out.old }
-    ensures yard { ¬ IsCommand (map string_bytes words.now) Command.Replay → yard.new ≡ yard.old }
-    ensures net { _net.new ≡ _net.old }
-    ensures kids { _kids.new ≡ _kids.old }
+        (record {
+          yard = change (Y.returned yard.old) (Y.returned yard.new);
+          net = change (L.traffic net.old) (L.traffic net.new);
+          net_faults = change (L.faults net.old) (L.faults net.new);
+          kids = change (S.family kids.old) (S.family kids.new);
+          kid_faults = change (S.faults kids.old) (S.faults kids.new);
+        }) result }
+    ensures nothing_written { result ≢ Status.Ok → result ≢ Status.TurnsUsed → result ≢ Status.WriteFault → out.new ≡ out.old }
+    ensures usage { ¬ IsSomeCommand (map string_bytes words.now) → out.new ≡ out.old }
+    ensures input { ¬ Names reads_input (map string_bytes words.now) → input.new ≡ input.old }
+    ensures yard { ¬ Names uses_yard (map string_bytes words.now) → yard.new ≡ yard.old }
+    ensures net { ¬ Names uses_net (map string_bytes words.now) → net.new ≡ net.old }
+    ensures kids { ¬ Names uses_kids (map string_bytes words.now) → kids.new ≡ kids.old }
+    ensures early { IsEarly result → (yard.new ≡ yard.old) × (net.new ≡ net.old) × (kids.new ≡ kids.old) }
 {
-    match run(alloc, words, input, out, yard) {
+    match run(alloc, words, input, out, net, kids, yard) {
         Ok(()) => Status::Ok,
         Err(failure) => fail(alloc, err, failure),
     }
 }
 
 // Runs the command, up to its failure.
-fn run<R: Source, W: Sink, Y: Yard>(
+fn run<R: Source, W: Sink, L: Link, S: Spawner, Y: Yard>(
     alloc: Global,
     words: &[String],
     input: &mut R,
     out: &mut W,
+    net: &mut L,
+    kids: &mut S,
     yard: &mut Y,
 ) -> Result<(), Failure>
     ensures comes { Comes (map string_bytes words.now)
         (seen (R.left input.old) (R.faults input.old)) (seen (R.left input.new) (R.faults input.new))
         (seen (W.taken out.old) (W.faults out.old)) (seen (W.taken out.new) (W.faults out.new))
-        (yards (Y.returned yard.old) (Y.returned yard.new)) result }
-    ensures untouched { ¬ IsSomeCommand (map string_bytes words.now) → (input.new ≡ input.old) × (out.new ≡ out.old) }
-    ensures yard { ¬ IsCommand (map string_bytes words.now) Command.Replay → yard.new ≡ yard.old }
-    ensures nothing_written { OnErr result (result ≢ Err Failure.Write → out.new ≡ out.old) }
+        (record {
+          yard = change (Y.returned yard.old) (Y.returned yard.new);
+          net = change (L.traffic net.old) (L.traffic net.new);
+          net_faults = change (L.faults net.old) (L.faults net.new);
+          kids = change (S.family kids.old) (S.family kids.new);
+          kid_faults = change (S.faults kids.old) (S.faults kids.new);
+        }) result }
+    ensures nothing_written { OnErr result (result ≢ Err Failure.Turns → result ≢ Err Failure.Write → out.new ≡ out.old) }
+    ensures usage { ¬ IsSomeCommand (map string_bytes words.now) → out.new ≡ out.old }
+    ensures input { ¬ Names reads_input (map string_bytes words.now) → input.new ≡ input.old }
+    ensures yard { ¬ Names uses_yard (map string_bytes words.now) → yard.new ≡ yard.old }
+    ensures net { ¬ Names uses_net (map string_bytes words.now) → net.new ≡ net.old }
+    ensures kids { ¬ Names uses_kids (map string_bytes words.now) → kids.new ≡ kids.old }
+    ensures early { IfErr result (λ failure. ComesEarly failure → (yard.new ≡ yard.old) × (net.new ≡ net.old) × (kids.new ≡ kids.old)) }
 {
-    let command = read_words(alloc, words)?;
-    let text = read_input(alloc, input)?;
-    let output = answer(alloc, &command, text.as_slice(), yard)?;
-    match write_all(out, output.as_slice()) {
-        Ok(()) => Ok(()),
-        Err(_) => Err(Failure::Write),
+    let command = command_of(alloc, words)?;
+    let text = read_input(alloc, &command, input)?;
+    let told = answer(alloc, &command, text.as_slice(), net, kids, yard)?;
+    match write_all(out, told.text.as_slice()) {
+        Ok(()) => {}
+        Err(_) => return Err(Failure::Write),
     }
-}
-
-// The whole input.
-fn read_input<R: Source>(alloc: Global, input: &mut R) -> Result<Bytes, Failure>
-    ensures { ReadsInput (seen (R.left input.old) (R.faults input.old)) (seen (R.left input.new) (R.faults input.new)) result }
-{
-    match read_all(alloc, input, MOST_INPUT) {
-        Ok(text) => Ok(text),
-        Err(ReadAll::Fault) => Err(Failure::Read),
-        Err(ReadAll::TooLong) => Err(Failure::Refused(Refusal::Long)),
-        Err(ReadAll::Memory) => Err(Failure::Memory),
-    }
-}
-
-// The output of a command for its input.
-fn answer<Y: Yard>(
-    alloc: Global,
-    command: &Command,
-    text: &[u8],
-    yard: &mut Y,
-) -> Result<Bytes, Failure>
-    ensures answered { Answered command.now text.now (yards (Y.returned yard.old) (Y.returned yard.new)) result }
-    ensures yard { command.now ≢ Command.Replay → yard.new ≡ yard.old }
-{
-    match command {
-        Command::Walk => walk_document(alloc, text),
-        Command::Replay => replay_document(alloc, text, yard),
-        Command::Check => lay_out(alloc, text),
-        Command::Format => format(alloc, text),
-        Command::Compile(name) => compile(alloc, text, name.as_slice()),
-        Command::List => list(alloc, text),
-        Command::Verify => verify(alloc, text),
+    if told.finished {
+        Ok(())
+    } else {
+        Err(Failure::Turns)
     }
 }
