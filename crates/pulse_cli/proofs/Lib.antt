@@ -1,6 +1,5 @@
-pub mod Commands
 pub mod Endings
 pub mod ImageRefusals
 pub mod Iterators
 pub mod Outputs
-pub mod WordLemmas
+pub mod Processes

@@ -1,26 +1,25 @@
 -- From the steps of a command's run to what it came to.
-use Rattle.std.proofs.Common.{◌≡◌, ℕ, List, Option, Some, None, Result, Ok, Err, sym, subst, ◌∙◌}
+use Rattle.std.proofs.Common.{◌≡◌, ℕ, Bool, true, false, List, [], Option, Some, None, Result, Ok, Err, refl, sym, subst}
 use Rattle.pulse_base.specs.Outside.{Appends, HasCause}
 use Rattle.pulse_base.specs.declared.source.Failed.{Failed}
-use Rattle.pulse_cli.specs.Answers.{Answers}
-use Rattle.pulse_cli.specs.Ending.{seen, HasOutput, WritesWhole, FailsToWrite}
-use Rattle.pulse_cli.specs.Steps.{IsInput, Answered}
-use Rattle.pulse_cli.specs.Yards.{Yards}
-use Rattle.pulse_cli.specs.declared.command.Command.{Command}
+use Rattle.pulse_process.specs.declared.told.Told.{Told}
+use Rattle.pulse_process.specs.declared.fault.ProcessFault.{ProcessFault}
+use Rattle.pulse_words.specs.declared.command.Command.{Command}
+use Rattle.pulse_cli.specs.Answers.{Answers, AnswersAs, Whole}
+use Rattle.pulse_cli.specs.Ending.{OfInput, seen, WritesWhole, FailsToWrite}
+use Rattle.pulse_cli.specs.Sides.{Sides, HasRisen}
+use Rattle.pulse_cli.specs.Steps.{Answered, Gives, IsWhole, Serves}
+use Rattle.pulse_cli.specs.Uses.{uses_kids, uses_net}
 use Rattle.pulse_cli.specs.declared.failure.Failure.{Failure}
+use Rattle.pulse_cli.specs.declared.failure.Failure.TheVariants as f
+use Rattle.pulse_cli.specs.declared.failure.Refusal.{Refusal}
+use Rattle.pulse_cli.specs.declared.failure.Refusal.TheVariants as r
 
--- what is answered whatever the yard is told, is answered at this one
-pub answered_as : (command named : Command) (text : List ℕ) (y : Yards) (result : Result (List ℕ) Failure)
-    → command ≡ named → ((z : Yards) → Answered named text z result) → Answered command text y result
-answered_as command named text y result is h = subst (λ (m : Command). Answered m text y result) (sym is) (h y)
-
--- the answer to the whole input is the output of the command
-pub has_output : (command : Command) (told now : Option (List ℕ)) (y : Yards) (text shown output : List ℕ)
-    → IsInput told now text → shown ≡ text → Answers command shown y (Ok output) → HasOutput command told now y output
-has_output command None now y text shown output is same h = tt
-has_output command (Some left) now y text shown output is same h =
-    let whole : shown ≡ left = same ∙ is.1 in
-    (is.0, subst (λ (t : List ℕ). Answers command t y (Ok output)) whole h)
+-- what holds of the text that a command took holds of its input
+pub of_input : (reads : Bool) (old now : Option (List ℕ)) (text : List ℕ) (P : List ℕ → Type 0) → OfInput reads old now (λ t. text ≡ t) → P text → OfInput reads old now P
+of_input true None now text P is h = tt
+of_input true (Some left) now text P is h = (is.0, subst P is.1 h)
+of_input false old now text P is h = (is.0, subst P is.1 h)
 
 pub writes : (told now : Option (List ℕ)) (before after : ℕ) (shown output : List ℕ)
     → shown ≡ output → Appends {E = Failed} told now shown (Ok tt) → WritesWhole (seen told before) (seen now after) output
@@ -30,3 +29,41 @@ pub fails : (told now : Option (List ℕ)) (before after : ℕ) (shown output : 
     → shown ≡ output → HasCause {T = Unit {0}} before after (Err e) → Appends told now shown (Err e) → FailsToWrite (seen told before) (seen now after) output
 fails told now before after shown output e same cause bytes =
     (cause.failed, (e, subst (λ (b : List ℕ). Appends {E = Failed} told now b (Err e)) same bytes))
+
+-- the whole text of a command that is no process answers for it
+pub whole_answers : (command : Command) (text : List ℕ) (s : Sides) (P : Result (List ℕ) Refusal → Type 0) (given : Result (List ℕ) Failure) (result : Result Told Failure)
+    → ((x : Result Told Refusal) → Whole P x → Answers command text s x) → Gives P given → IsWhole given result → Answered command text s result
+whole_answers command text s P (Ok t) result to h is = subst (Answered command text s) (sym is) (to (Ok (record { text = t; finished = true })) (h, refl))
+whole_answers command text s P (Err f.Memory) result to h is = subst (Answered command text s) (sym is) tt
+whole_answers command text s P (Err (f.Refused refusal)) result to h is = subst (Answered command text s) (sym is) (to (Err refusal) h)
+whole_answers command text s P (Err f.Usage) result to h is = absurd h
+whole_answers command text s P (Err f.Read) result to h is = absurd h
+whole_answers command text s P (Err f.Write) result to h is = absurd h
+whole_answers command text s P (Err f.Link) result to h is = absurd h
+whole_answers command text s P (Err f.Turns) result to h is = absurd h
+whole_answers command text s P (Err f.Child) result to h is = absurd h
+
+-- what a process tells answers for it; its failures of link and children have their causes
+pub process_answers : (command : Command) (text : List ℕ) (s : Sides) (P : Result Told ProcessFault → Type 0) (result : Result Told Failure)
+    → ((x : Result Told Refusal) → AnswersAs P x → Answers command text s x)
+    → (result ≡ Err f.Link → (uses_net command ≡ true) × HasRisen s.net_faults) → (result ≡ Err f.Child → (uses_kids command ≡ true) × HasRisen s.kid_faults)
+    → Serves P result → Answered command text s result
+process_answers command text s P (Ok told) to link child h = to (Ok told) h
+process_answers command text s P (Err f.Memory) to link child h = tt
+process_answers command text s P (Err f.Link) to link child h = link refl
+process_answers command text s P (Err f.Child) to link child h = child refl
+process_answers command text s P (Err (f.Refused (r.Document fault))) to link child h = to (Err (r.Document fault)) h
+process_answers command text s P (Err (f.Refused (r.Form limit))) to link child h = to (Err (r.Form limit)) h
+process_answers command text s P (Err (f.Refused (r.Walk fault))) to link child h = absurd h
+process_answers command text s P (Err (f.Refused r.Long)) to link child h = absurd h
+process_answers command text s P (Err (f.Refused r.ProgramLimit)) to link child h = absurd h
+process_answers command text s P (Err (f.Refused (r.Lex place))) to link child h = absurd h
+process_answers command text s P (Err (f.Refused (r.Deep place))) to link child h = absurd h
+process_answers command text s P (Err (f.Refused (r.Syntax place))) to link child h = absurd h
+process_answers command text s P (Err (f.Refused (r.Check kind place))) to link child h = absurd h
+process_answers command text s P (Err (f.Refused r.Iter)) to link child h = absurd h
+process_answers command text s P (Err (f.Refused (r.Image fault))) to link child h = absurd h
+process_answers command text s P (Err f.Usage) to link child h = absurd h
+process_answers command text s P (Err f.Read) to link child h = absurd h
+process_answers command text s P (Err f.Write) to link child h = absurd h
+process_answers command text s P (Err f.Turns) to link child h = absurd h
