@@ -1,5 +1,5 @@
 -- What the ask of a world's one request does, and what the drain leaves of it.
-use Rattle.std.proofs.Common.{◌≡◌, ◌≢◌, ℕ, List, [], ◌∷◌, length, replicate, Option, Some, None, refl, sym, ap, ◌∙◌}
+use Rattle.std.proofs.Common.{◌≡◌, ◌≢◌, List, [], ◌∷◌, length, Some, None, refl, sym, ap, ◌∙◌}
 use Rattle.std.specs.Prelude.{slice_get, slice_set}
 use Rattle.pulse_base.specs.declared.answer.Answer.{Answer}
 use Rattle.pulse_base.specs.declared.answer.Answer.TheVariants.{Silent}
@@ -7,12 +7,10 @@ use Rattle.pulse_base.specs.declared.event.Event.TheVariants.{Ask}
 use Rattle.pulse_base.specs.declared.event.Trace.TheVariants as trace
 use Rattle.iter_check.specs.Iteration.{Begun}
 use Rattle.iter_check.specs.Iteration as i
-use Rattle.run_rules.specs.declared.client.Terms.{Terms}
 use Rattle.run_rules.specs.declared.client.Asking.{Asking}
 use Rattle.run_rules.specs.declared.client.Asking.TheVariants.{NotAsked, Waiting, Answered}
 use Rattle.run_rules.specs.declared.client.Asked.{Asked}
 use Rattle.run_rules.specs.Client.{asked_by}
-use Rattle.run_rules.specs.Outcome.{Begin}
 use Rattle.run_views.specs.Setting.{Setting}
 use Rattle.run_views.specs.Clients.{terms_of}
 use Rattle.event_run.specs.World.{WorldState, asks, asks_at, event, told_asked}

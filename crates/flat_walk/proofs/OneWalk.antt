@@ -1,8 +1,7 @@
 -- What is known of a scenario that asks for one walk: its region and its request; and that the ask of its request can be run.
-use Rattle.std.proofs.Common.{◌≡◌, ℕ, ◌<◌, true, nat_eq, List, [], ◌∷◌, length, All, filter_map, option_map, Some, refl, ap, subst, ◌∙◌, arith}
+use Rattle.std.proofs.Common.{◌≡◌, ℕ, ◌<◌, true, nat_eq, List, [], ◌∷◌, length, All, filter_map, option_map, refl, ap, subst, ◌∙◌, arith}
 use Rattle.std.proofs.lemmas.Bool.{and_parts}
 use Rattle.std.proofs.lemmas.List.Elements.{All-cons, All-nil}
-use Rattle.std.specs.Prelude.{slice_get}
 use Rattle.pulse_base.specs.declared.event.Event.TheVariants.{Ask}
 use Rattle.pulse_base.specs.declared.plan.RequestPlan.{RequestPlan}
 use Rattle.iter_check.specs.FaultList.{record_fields}

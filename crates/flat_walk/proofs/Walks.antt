@@ -1,7 +1,8 @@
 -- The replay of the ask of a scenario's one request is its walk.
-use Rattle.std.proofs.Common.{◌≡◌, ℕ, zero, suc, ◌<◌, true, List, [], ◌∷◌, inl, inr, length, map, replicate, Option, Some, None, sym, ap, subst, ◌∙◌, if◌then◌else◌}
+use Rattle.std.proofs.Common.{◌≡◌, ℕ, zero, suc, true, List, [], ◌∷◌, inl, inr, length, map, replicate, Option, Some, None, Result, Ok, Err, refl, sym, ap, subst, ◌∙◌, if◌then◌else◌}
 use Rattle.std.proofs.lemmas.Bool.{and_parts}
-use Rattle.std.specs.Prelude.{slice_get, option_map}
+use Rattle.std.specs.Prelude.{slice_get, option_map, IfOk}
+use Rattle.pulse_base.specs.declared.listed.Memory.{Memory}
 use Rattle.pulse_base.specs.declared.event.Event.TheVariants.{Ask}
 use Rattle.iter_check.specs.Iteration.{begin}
 use Rattle.scenario_text.specs.declared.plan.PlanRegion.{PlanRegion}
@@ -23,9 +24,9 @@ use Rattle.scenario_flat.specs.Runs.{walks_of, limit_of, first_of, after}
 use Rattle.scenario_run.specs.Setting.{setting_of}
 use Rattle.scenario_run.specs.Start.{start_of}
 use Rattle.run_explained.specs.Explained.{HoldsRegion}
-use Rattle.report_text.specs.declared.outcome.Outcome.{Outcome}
 use Rattle.report_text.specs.Report as text
 use Rattle.replay.specs.declared.scenario.Replayed.{Replayed}
+use Rattle.replay.specs.Answer.{GivesBack}
 use Rattle.replay.specs.Report.{IsReplay, IsReplayed, bytes_in}
 use Rattle.replay.specs.Report as replay
 use Rattle.flat_walk.specs.Form.{asked, asks_for_one_walk}
@@ -84,6 +85,14 @@ told_so s left parts one h =
       report = ap text.report same;
     }
 
-pub is_walk : (s : Scenario) (left : Replayed) (parts : List PartState) (report : List ℕ) → asks_for_one_walk s.plan ≡ true → IsReplayed (asked s) left parts
-    → report ≡ text.report left.outcome → IsWalkReport s report × IsReplay (asked s) report parts
-is_walk s left parts report one h e = (subst (IsWalkReport s) (sym e) (told_so s left parts one h), record { left = left; replayed = h; report = e })
+-- and its text is the walk's report
+pub reports : (s : Scenario) (left : Replayed) (old new : Option (List PartState)) (report : Result (List ℕ) Memory)
+    → asks_for_one_walk s.plan ≡ true → ((parts : List PartState) × IsReplayed (asked s) left parts × GivesBack old new parts) → IfOk report (λ t. t ≡ text.report left.outcome)
+    → IfOk report (λ t. (parts : List PartState) × IsWalkReport s t × IsReplay (asked s) t parts × GivesBack old new parts)
+reports s left old new (Err e) one run same = tt
+reports s left old new (Ok t) one run same = (
+  run.0,
+  subst (IsWalkReport s) (sym same) (told_so s left run.0 one run.1),
+  record { left = left; replayed = run.1; report = same },
+  run.2,
+)
