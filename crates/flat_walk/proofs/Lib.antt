@@ -1,8 +1,4 @@
-pub mod Beginning
-pub mod Ending
+pub mod Asking
 pub mod OneReport
 pub mod OneWalk
-pub mod Reaching
-pub mod Scenes
-pub mod Stepping
-pub mod Visiting
+pub mod Walks

@@ -3,4 +3,3 @@ pub mod Report
 pub mod Laws
 pub mod Answer
 pub mod Lines
-pub mod inner

@@ -15,14 +15,14 @@ use Rattle.report_text.specs.Report as text
 use Rattle.scenario_flat.specs.Runs.{walks_of, limit_of, first_of, after}
 
 -- what the ask of a request does: it sends the first letter, or the request has its answer since init ends or faults
-abbrev pub asked : Begun → Trace
-asked (Ready cur pad) = trace.Sent 0
-asked (Ended pad) = trace.Answered
-asked DivZero = trace.Answered
+abbrev pub trace_of : Begun → Trace
+trace_of (Ready cur pad) = trace.Sent 0
+trace_of (Ended pad) = trace.Answered
+trace_of DivZero = trace.Answered
 
 -- the one event is the ask; it is told where the document says so
 abbrev pub traces : Scenario → List Trace
-traces s = if s.plan.trace then map (λ w. asked (begin w.iter w.args)) (walks_of s) else []
+traces s = if s.plan.trace then map (λ w. trace_of (begin w.iter w.args)) (walks_of s) else []
 
 -- the regions after the run, each shown as the document says
 abbrev pub out_regions : List PlanRegion → List FlatRegion → List OutRegion

@@ -1,26 +1,27 @@
 // From a document to the report of its walk.
 
-ghost use Rattle.std.specs.Prelude.{◌≡◌, true, [], ◌∷◌, IfOk};
+ghost use Rattle.std.specs.Prelude.{◌≡◌, List, true, [], ◌∷◌, IfOk};
+ghost use Rattle.node_core.specs.Part.{PartState};
 ghost use Rattle.scenario_text.specs.Accepted.{IsRunnable};
+ghost use Rattle.replay.specs.Answer.{GivesBack};
+ghost use Rattle.replay.specs.Report.{IsReplay};
 ghost use Rattle.flat_walk.specs.Form as f;
 ghost use Rattle.flat_walk.specs.Report.{IsWalkReport};
-ghost use Rattle.flat_walk.specs.Answer.{WalkAnswer};
-ghost use Rattle.flat_walk.specs.inner.Scene.{IsScene, IsSceneReport};
+ghost use Rattle.flat_walk.specs.Answer.{IsRefusal, WalkAnswer};
 
 use crate::fault::WalkFault;
-use crate::ground::Ground;
-use crate::outcome::{outcome, traces};
-use crate::walking::{begin_walk, run};
-use pulse_base::{Bytes, Memory, RequestPlan};
-use pulse_codegen::{Built, build};
+use node_core::Yard;
+use pulse_base::{Bytes, Event, Events, Memory};
+use replay::run_scenario;
 use report_text::report;
-use scenario_text::{DocFault, Plan, PlanRegion, Scenario, read};
+use scenario_text::{DocFault, Plan, Scenario, read};
 use std::alloc::Global;
 
-/// The report of the walk that a document asks for, or why there is none. The work grows with the text and with the
-/// iterations that are made.
-pub fn walk(alloc: Global, text: &[u8]) -> Result<Bytes, WalkFault>
-    ensures { WalkAnswer text.now result }
+/// The report of the walk that a document asks for, or why there is none. The yard makes the nodes, and is given them back in order
+/// of number; it is left alone where the document is refused. The work grows with the text and with the iterations that are made.
+pub fn walk<Y: Yard>(alloc: Global, text: &[u8], yard: &mut Y) -> Result<Bytes, WalkFault>
+    ensures answer { WalkAnswer text.now (Y.returned yard.old) (Y.returned yard.new) result }
+    ensures refused { IsRefusal result → yard.new ≡ yard.old }
 {
     let scenario = match read(alloc, text) {
         Ok(scenario) => scenario,
@@ -30,9 +31,9 @@ pub fn walk(alloc: Global, text: &[u8]) -> Result<Bytes, WalkFault>
     if !asks_for_one_walk(&scenario.plan) {
         return Err(WalkFault::Form);
     }
-    match walk_scenario(alloc, scenario) {
+    match report_of(alloc, scenario, yard) {
         Ok(report) => Ok(report),
-        Err(_) => Err(WalkFault::Memory),
+        Err(Memory) => Err(WalkFault::Memory),
     }
 }
 
@@ -43,51 +44,23 @@ fn asks_for_one_walk(plan: &Plan) -> bool
     plan.regions.len() == 1 && plan.requests.len() == 1 && !plan.listed
 }
 
-// The report of a scenario that asks for one walk.
-fn walk_scenario(alloc: Global, scenario: Scenario) -> Result<Bytes, Memory>
-    requires runnable { IsRunnable scenario }
-    requires one { f.asks_for_one_walk scenario.plan ≡ true }
-    ensures { IfOk result (IsWalkReport scenario) }
+// The scenario with the ask of its request as its one event.
+fn asked(alloc: Global, mut scenario: Scenario) -> Result<Scenario, Memory>
+    ensures { IfOk result (λ s. s ≡ f.asked scenario) }
 {
-    let Scenario { checked, mut plan } = scenario;
-    let built = build(alloc, checked)?;
-    let limit = u64::from(plan.rounds) * u64::from(plan.budget);
-    match plan.regions.pop() {
-        Some(region) => walk_region(
-            alloc,
-            &built,
-            plan.requests.get(0),
-            region,
-            limit,
-            plan.trace,
-        ),
-        None => unreachable!(),
-    }
+    let mut events = Events::new(alloc);
+    events.push(Event::Ask(0))?;
+    scenario.plan.events = events;
+    Ok(scenario)
 }
 
-// The report of one request over one region.
-fn walk_region(
-    alloc: Global,
-    built: &Built,
-    request: &RequestPlan,
-    region: PlanRegion,
-    limit: u64,
-    told: bool,
-) -> Result<Bytes, Memory>
-    requires scene { IsScene built.now.checked request.now region }
-    ensures { IfOk result (IsSceneReport built.now.checked request.now region limit told) }
+// The report of a scenario that asks for one walk.
+fn report_of<Y: Yard>(alloc: Global, scenario: Scenario, yard: &mut Y) -> Result<Bytes, Memory>
+    requires runnable { IsRunnable scenario }
+    requires one { f.asks_for_one_walk scenario.plan ≡ true }
+    ensures { IfOk result (λ report. (parts : List PartState) × IsWalkReport scenario report × IsReplay (f.asked scenario) report parts × GivesBack (Y.returned yard.old) (Y.returned yard.new) parts) }
 {
-    let image = built.image(usize::from(request.iter));
-    let PlanRegion {
-        span,
-        shown,
-        bytes,
-        ..
-    } = region;
-    let mut ground = Ground::of(alloc, span, bytes)?;
-    let begun = begin_walk(image, request.args.as_slice());
-    let traces = traces(alloc, told, &begun)?;
-    let walked = run(image, &mut ground, begun, limit);
-    let outcome = outcome(alloc, traces, &walked, shown, ground.into_bytes())?;
-    report(alloc, &outcome)
+    let asked = asked(alloc, scenario)?;
+    let left = run_scenario(alloc, asked, yard)?;
+    report(alloc, &left.outcome)
 }

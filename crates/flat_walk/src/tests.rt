@@ -1,4 +1,5 @@
 use crate::walk;
+use node_core::MemYard;
 use pulse_base::{Bytes, Memory};
 use std::alloc::Global;
 use std::test::Fail;
@@ -24,7 +25,8 @@ const REQUEST: &str = "[[request]]\niter = \"add\"\nargs = [16]\n";
 
 // The report, or the words of the refusal.
 fn told(alloc: Global, text: &str) -> Result<Bytes, Memory> {
-    match walk(alloc, text.as_bytes()) {
+    let mut yard = MemYard::new(alloc);
+    match walk(alloc, text.as_bytes(), &mut yard) {
         Ok(report) => Ok(report),
         Err(fault) => fault.words(alloc),
     }
