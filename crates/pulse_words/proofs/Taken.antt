@@ -188,7 +188,7 @@ met_cluster a = refl
 -- ---- the words of each command
 
 few_turns : (turns : ℕ) → AreTurns turns → IsPlainWord (decimal turns)
-few_turns turns are = of_number turns (omega (arith, are.few))
+few_turns turns are = of_number turns (omega (arith, are.1))
 
 part : (n : ℕ) → n < 2 ^ 16 → IsPlainWord (decimal n)
 part n small = of_number n (omega (arith, small))

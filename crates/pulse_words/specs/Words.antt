@@ -16,9 +16,8 @@ is_name [] = false
 is_name (b ∷ bs) = (is_ascii_lowercase b && nat_le (length bs) 31) && list_all in_word bs
 
 -- the numbers of turns that a part may be given
-pub record AreTurns (turns : ℕ) : Type 0 where
-  pub some : 1 ≤ turns
-  pub few : turns ≤ 1000000000
+abbrev pub AreTurns : ℕ → Type 0
+AreTurns turns = (1 ≤ turns) × (turns ≤ 1000000000)
 
 -- the words are this command
 abbrev pub IsCommand : List (List ℕ) → Command → Type 0

@@ -50,7 +50,7 @@ fn command_line<'a>(alloc: Global) -> Result<Command<'a>, AllocError>
     with_ask.subcommand(cluster)
 }
 
-// The commands that serve no one.
+// The commands with no turns behind.
 fn document_line<'a>(alloc: Global) -> Result<Command<'a>, AllocError>
     ensures { IfOk result (λ line. app_of line ≡ document_app) }
 {

@@ -1,56 +1,22 @@
--- A command as the word that it begins with, and what the words behind it give.
+-- The word that a command begins with.
 use Rattle.std.specs.Prelude.{ℕ, Bool, true, false, List, codes}
 use Rattle.pulse_words.specs.declared.command.Command.{Command}
 use Rattle.pulse_words.specs.declared.command.Command.TheVariants as c
 
-pub data Head : Type 0 where
-  walk : Head
-  replay : Head
-  check : Head
-  format : Head
-  compile : Head
-  list : Head
-  verify : Head
-  shape : Head
-  drill : Head
-  node : Head
-  switch : Head
-  ask : Head
-  cluster : Head
-
-abbrev pub head_of : Command → Head
-head_of c.Walk = walk
-head_of c.Replay = replay
-head_of c.Check = check
-head_of c.Format = format
-head_of (c.Compile name) = compile
-head_of c.List = list
-head_of c.Verify = verify
-head_of (c.Shape s) = shape
-head_of (c.Drill s) = drill
-head_of (c.Node n turns) = node
-head_of (c.Switch turns) = switch
-head_of (c.Ask n turns) = ask
-head_of (c.Cluster turns) = cluster
-
-abbrev pub head_word : Head → List ℕ
-head_word walk = codes "walk"
-head_word replay = codes "replay"
-head_word check = codes "check"
-head_word format = codes "format"
-head_word compile = codes "compile"
-head_word list = codes "list"
-head_word verify = codes "verify"
-head_word shape = codes "shape"
-head_word drill = codes "drill"
-head_word node = codes "node"
-head_word switch = codes "switch"
-head_word ask = codes "ask"
-head_word cluster = codes "cluster"
-
--- the word that a command begins with
 abbrev pub first_word : Command → List ℕ
-first_word command = head_word (head_of command)
+first_word c.Walk = codes "walk"
+first_word c.Replay = codes "replay"
+first_word c.Check = codes "check"
+first_word c.Format = codes "format"
+first_word (c.Compile name) = codes "compile"
+first_word c.List = codes "list"
+first_word c.Verify = codes "verify"
+first_word (c.Shape shape) = codes "shape"
+first_word (c.Drill shape) = codes "drill"
+first_word (c.Node node turns) = codes "node"
+first_word (c.Switch turns) = codes "switch"
+first_word (c.Ask client turns) = codes "ask"
+first_word (c.Cluster turns) = codes "cluster"
 
 -- the command has no other word
 abbrev pub is_plain : Command → Bool

@@ -37,14 +37,14 @@ plain_app =
     (new_app (codes "walk"))) (new_app (codes "replay"))) (new_app (codes "check"))) (new_app (codes "format")))
     (new_app (codes "list"))) (new_app (codes "verify"))
 
--- and those that make a document or read a program
+-- and those with a name or a document behind
 abbrev pub document_app : App
 document_app =
     with_leaf (with_leaf (with_leaf plain_app (one_word (codes "compile") (codes "name")))
     (three_words (codes "shape") (codes "kind") (codes "count") (codes "seed")))
     (three_words (codes "drill") (codes "kind") (codes "count") (codes "seed"))
 
--- and those that serve
+-- and those with turns behind
 unfoldable pub pulse_app : App
 pulse_app =
     with_leaf (with_leaf (with_leaf (with_leaf document_app
