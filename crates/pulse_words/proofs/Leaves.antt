@@ -1,5 +1,5 @@
 -- `clap` takes the words behind the name of a command.
-use Rattle.std.proofs.Common.{◌≡◌, ℕ, true, false, List, [], ◌∷◌, codes, refl}
+use Rattle.std.proofs.Common.{◌≡◌, ℕ, true, false, [], ◌∷◌, codes, refl}
 use Rattle.clap.specs.Simple.{App, Shape, built_leaf, inherited, marked_built, new_shape, with_leaf_noted}
 use Rattle.clap.specs.Takes.{level_passes}
 use Rattle.clap.specs.Walk.{Held, Text, arg_by_index, nothing_held, to_positional}

@@ -1,6 +1,6 @@
 -- What `clap` answers, where its line was told as the one of this program.
 use Rattle.std.proofs.Common.{◌≡◌, ◌∙◌, true, List, Option, Some, None, refl, ap, subst}
-use Rattle.std.specs.Prelude.{ℕ, Box, option_map}
+use Rattle.std.specs.Prelude.{Box, option_map}
 use Rattle.std.specs.Box.{box_value}
 use Rattle.clap.specs.Words.{App, HasMatchesOf, Text, is_simple, subcommand_name_of, subcommand_of, subcommand_rows, subcommand_rows_of}
 use Rattle.clap.specs.declared.parser.matches.ArgMatches.{ArgMatches}

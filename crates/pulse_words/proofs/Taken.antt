@@ -1,7 +1,7 @@
 -- `clap` takes the words of each command, and meets its name.
 use Rattle.std.proofs.Common.{◌≡◌, ◌∙◌, ◌≤◌, ◌<◌, ◌^◌, ◌&&◌, ℕ, Bool, true, false, List, [], ◌∷◌, Option, Some, is_some, codes, refl, ap, ap₂, arith}
 use Rattle.std.specs.Prelude.{decimal}
-use Rattle.clap.specs.Simple.{App, built, entered, names_of}
+use Rattle.clap.specs.Simple.{built, entered, names_of}
 use Rattle.clap.specs.Takes.{entered_passes, level_passes, takes}
 use Rattle.clap.specs.Walk.{Text, nothing_held, stop_after}
 use Rattle.clap.proofs.OnLiterals.{clap_on_literals}

@@ -6,12 +6,15 @@ ghost use Rattle.clap.specs.Words.{app_of, kind_of, rule_of, subcommand_of, subc
 ghost use Rattle.pulse_words.specs.inner.Line.{IsLineOf, document_app, needed, one_word, plain_app, pulse_app, three_words, two_words};
 
 use crate::command::WordsFault;
-use clap::{Arg, ArgMatches, Command};
 use clap::error::ErrorKind;
+use clap::{Arg, ArgMatches, Command};
 use std::alloc::{AllocError, Global};
 
 /// The words as `clap` reads them.
-pub(crate) fn parse_words<'a>(alloc: Global, words: &'a [String]) -> Result<ArgMatches<'a>, WordsFault>
+pub(crate) fn parse_words<'a>(
+    alloc: Global,
+    words: &'a [String],
+) -> Result<ArgMatches<'a>, WordsFault>
     ensures matches { IfOk result (λ m. subcommand_rows_of m ≡ subcommand_of pulse_app (map string_bytes words.now)) }
     ensures refused { takes pulse_app (map string_bytes words.now) ≡ true → IfErr result (λ fault. fault ≡ WordsFault.Memory) }
 {

@@ -31,11 +31,7 @@ pub(crate) fn part_word(word: &str) -> Option<u16>
         Some(n) => n,
         None => return None,
     };
-    if n < 65_536 {
-        Some(n as u16)
-    } else {
-        None
-    }
+    if n < 65_536 { Some(n as u16) } else { None }
 }
 
 /// The number of turns that a word spells.

@@ -127,7 +127,11 @@ fn read_document(first: &str, words: &[String]) -> Option<Shape>
     ensures each { (shape : Shape) → NamesDocument first.now (map string_bytes words.now) shape → result ≡ Some shape }
 {
     match words {
-        [word, kind, count, seed] if word.as_str() == first => shape_of(kind.as_str(), count.as_str(), seed.as_str()),
+        [word, kind, count, seed] if word.as_str() == first => shape_of(
+            kind.as_str(),
+            count.as_str(),
+            seed.as_str(),
+        ),
         _ => None,
     }
 }

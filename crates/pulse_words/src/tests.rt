@@ -17,7 +17,10 @@ const CASES: [(&str, &str); 44] = [
     ("compile a_9", "Compile a_9"),
     ("shape list 1 0", "Shape List 1 0"),
     ("shape buckets 20000 7", "Shape Buckets 20000 7"),
-    ("drill btree 20000 18446744073709551615", "Drill Btree 20000 18446744073709551615"),
+    (
+        "drill btree 20000 18446744073709551615",
+        "Drill Btree 20000 18446744073709551615",
+    ),
     ("node 0 1", "Node 0 1"),
     ("node 65535 1000000000", "Node 65535 1000000000"),
     ("switch 10", "Switch 10"),
@@ -68,9 +71,18 @@ fn told(alloc: Global, read: Result<Command, WordsFault>) -> Result<String, Fail
         Err(WordsFault::Memory) => return Err("memory ran out".into()),
     };
     Ok(match command {
-        Command::Compile(name) => format!(in alloc; "Compile {}", std::str::from_utf8(name.as_slice())?)?,
-        Command::Shape(shape) => format!(in alloc; "Shape {:?} {} {}", shape.kind, shape.count, shape.seed)?,
-        Command::Drill(shape) => format!(in alloc; "Drill {:?} {} {}", shape.kind, shape.count, shape.seed)?,
+        Command::Compile(name) => format!(in alloc;
+            "Compile {}",
+            std::str::from_utf8(name.as_slice())?
+        )?,
+        Command::Shape(shape) => format!(in alloc;
+            "Shape {:?} {} {}",
+            shape.kind, shape.count, shape.seed
+        )?,
+        Command::Drill(shape) => format!(in alloc;
+            "Drill {:?} {} {}",
+            shape.kind, shape.count, shape.seed
+        )?,
         Command::Node { node, turns } => format!(in alloc; "Node {node} {turns}")?,
         Command::Switch { turns } => format!(in alloc; "Switch {turns}")?,
         Command::Ask { client, turns } => format!(in alloc; "Ask {client} {turns}")?,

@@ -7,7 +7,10 @@ ghost use Rattle.pulse_words.specs.inner.Heads.{first_word};
 
 use crate::command::{Command, WordsFault};
 use crate::line::parse_words;
-use crate::readers::{read_ask, read_cluster, read_compile, read_drill, read_node, read_plain, read_shape, read_switch};
+use crate::readers::{
+    read_ask, read_cluster, read_compile, read_drill, read_node, read_plain, read_shape,
+    read_switch,
+};
 use std::alloc::Global;
 
 /// The command of the words, which stand without the program's own name. What `clap` takes besides, such as a word

@@ -1,5 +1,5 @@
 -- The command line as `clap` is told it.
-use Rattle.std.specs.Prelude.{◌≡◌, ℕ, false, true, List, codes, Option, option_map}
+use Rattle.std.specs.Prelude.{◌≡◌, false, true, List, codes, Option, option_map}
 use Rattle.clap.specs.Words.{App, Rule, Text, app_of, new_app, new_rule, subcommand_of, with_rule, with_subcommand}
 use Rattle.clap.specs.declared.builder.command.Command.{Command as ClapCommand}
 use Rattle.clap.specs.declared.builder.command.Command.TheViews.{out-Command}

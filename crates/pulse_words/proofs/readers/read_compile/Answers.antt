@@ -1,4 +1,4 @@
-use Rattle.std.proofs.Common.{◌≡◌, ◌∙◌, ap, ap₂, sym, true, List, ℕ, [], ◌∷◌, codes}
+use Rattle.std.proofs.Common.{◌∙◌, ap, ap₂, sym, List, ℕ, [], ◌∷◌}
 use Rattle.pulse_words.specs.Words.{is_name}
 use Rattle.pulse_words.proofs.Slices.{is_first, two}
 use Rattle.pulse_words.proofs.readers.read_compile.Goals as goal

@@ -1,4 +1,4 @@
-use Rattle.std.proofs.Common.{◌≡◌, ◌∙◌, sym, Some}
+use Rattle.std.proofs.Common.{◌≡◌, ◌∙◌, sym}
 use Rattle.pulse_words.specs.declared.command.WordsFault.TheVariants as f
 use Rattle.pulse_words.specs.inner.Heads.{first_word}
 use Rattle.pulse_words.proofs.Parsed.{met_name, none_met}
