@@ -48,8 +48,8 @@ answers_line answers =
         (decimal (how_many is_done answers) ++ codes " " ++ decimal (how_many is_fault answers) ++ codes " " ++ decimal (how_many is_spent answers) ++ codes " " ++ decimal (how_many is_silent answers))
 
 -- the SHA-256 of the report's bytes, in lower-case hexadecimal digits
-abbrev pub digest : Outcome → List ℕ
-digest outcome = encode_lower (sha256 (report outcome))
+abbrev pub digest_line : Outcome → List ℕ
+digest_line outcome = line (codes "sha256") (encode_lower (sha256 (report outcome)))
 
 -- the iterations are the turns of the order; the letters are all that were sent, those of the drain included
 abbrev pub summary : Shape → Replayed → List ℕ
@@ -58,4 +58,4 @@ summary shape left =
     ++ line (codes "iterations") (decimal (length left.outcome.order))
     ++ line (codes "letters") (decimal left.letters)
     ++ answers_line left.outcome.answers
-    ++ line (codes "sha256") (digest left.outcome)
+    ++ digest_line left.outcome

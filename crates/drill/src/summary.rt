@@ -1,38 +1,65 @@
 // The text of a summary.
 
-ghost use Rattle.std.specs.Prelude.{◌≡◌, IfOk};
+ghost use Rattle.std.specs.Prelude.{◌≡◌, ◌++◌, codes, decimal, IfOk};
 ghost use Rattle.std.specs.String.{string_bytes};
 ghost use Rattle.drill.specs.Summary as s;
 
 use crate::tally::Tally;
-use pulse_base::{Bytes, Memory};
+use pulse_base::{Answer, Bytes, Memory};
 use replay::Replayed;
 use report_text::{Outcome, report};
 use sha2::{Digest, Sha256};
 use shape_build::Shape;
-use std::alloc::Global;
-
-// The digest of an outcome's report, as digits.
-fn digest(alloc: Global, outcome: &Outcome) -> Result<String, Memory>
-    ensures { IfOk result (λ digits. string_bytes digits ≡ s.digest outcome.now) }
-{
-    let report = report(alloc, outcome)?;
-    Ok(hex::encode(alloc, Sha256::digest(report.as_slice()))?)
-}
+use std::alloc::{AllocError, Global};
 
 /// The five lines of a drill. The work grows with the report.
 pub(crate) fn summary(alloc: Global, shape: &Shape, left: &Replayed) -> Result<Bytes, Memory>
     ensures { IfOk result (λ text. text ≡ s.summary shape.now left.now) }
 {
     let outcome = &left.outcome;
-    let tally = Tally::of(outcome.answers.as_slice());
-    let text = format!(in alloc;
-        "drill {} {} {}\niterations {}\nletters {}\nanswers {} {} {} {}\nsha256 {}\n",
-        shape.kind.word(), shape.count, shape.seed,
-        outcome.order.len(),
-        left.letters,
-        tally.done, tally.faults, tally.spent, tally.silent,
-        digest(alloc, outcome)?,
-    )?;
-    Ok(Bytes::from_vec(text.into_bytes()))
+    let mut text = Bytes::new(alloc);
+    text.append(shape_line(alloc, shape)?.as_bytes())?;
+    text.append(iterations_line(alloc, outcome.order.len())?.as_bytes())?;
+    text.append(letters_line(alloc, left.letters)?.as_bytes())?;
+    text.append(answers_line(alloc, outcome.answers.as_slice())?.as_bytes())?;
+    text.append(digest_line(alloc, outcome)?.as_bytes())?;
+    Ok(text)
+}
+
+fn shape_line(alloc: Global, shape: &Shape) -> Result<String, AllocError>
+    ensures { IfOk result (λ line. string_bytes line ≡ s.shape_line shape.now) }
+{
+    format!(in alloc; "drill {} {} {}\n", shape.kind.word(), shape.count, shape.seed)
+}
+
+fn iterations_line(alloc: Global, turns: usize) -> Result<String, AllocError>
+    ensures { IfOk result (λ line. string_bytes line ≡ s.line (codes "iterations") (decimal turns)) }
+{
+    format!(in alloc; "iterations {turns}\n")
+}
+
+fn letters_line(alloc: Global, letters: u32) -> Result<String, AllocError>
+    ensures { IfOk result (λ line. string_bytes line ≡ s.line (codes "letters") (decimal letters)) }
+{
+    format!(in alloc; "letters {letters}\n")
+}
+
+fn answers_line(alloc: Global, answers: &[Answer]) -> Result<String, AllocError>
+    ensures { IfOk result (λ line. string_bytes line ≡ s.answers_line answers.now) }
+{
+    let Tally {
+        done,
+        faults,
+        spent,
+        silent,
+    } = Tally::of(answers);
+    format!(in alloc; "answers {done} {faults} {spent} {silent}\n")
+}
+
+fn digest_line(alloc: Global, outcome: &Outcome) -> Result<String, Memory>
+    ensures { IfOk result (λ line. string_bytes line ≡ s.digest_line outcome.now) }
+{
+    let report = report(alloc, outcome)?;
+    let digest = hex::encode(alloc, Sha256::digest(report.as_slice()))?;
+    Ok(format!(in alloc; "sha256 {digest}\n")?)
 }
