@@ -1,6 +1,6 @@
 // The text of a summary.
 
-ghost use Rattle.std.specs.Prelude.{◌≡◌, ◌++◌, codes, decimal, IfOk};
+ghost use Rattle.std.specs.Prelude.{◌≡◌, ◌++◌, codes, decimal, IfOk, OnOk};
 ghost use Rattle.std.specs.String.{string_bytes};
 ghost use Rattle.drill.specs.Summary as s;
 
@@ -18,12 +18,18 @@ pub(crate) fn summary(alloc: Global, shape: &Shape, left: &Replayed) -> Result<B
 {
     let outcome = &left.outcome;
     let mut text = Bytes::new(alloc);
-    text.append(shape_line(alloc, shape)?.as_bytes())?;
-    text.append(iterations_line(alloc, outcome.order.len())?.as_bytes())?;
-    text.append(letters_line(alloc, left.letters)?.as_bytes())?;
-    text.append(answers_line(alloc, outcome.answers.as_slice())?.as_bytes())?;
-    text.append(digest_line(alloc, outcome)?.as_bytes())?;
+    put(&mut text, shape_line(alloc, shape)?)?;
+    put(&mut text, iterations_line(alloc, outcome.order.len())?)?;
+    put(&mut text, letters_line(alloc, left.letters)?)?;
+    put(&mut text, answers_line(alloc, outcome.answers.as_slice())?)?;
+    put(&mut text, digest_line(alloc, outcome)?)?;
     Ok(text)
+}
+
+fn put(text: &mut Bytes, line: String) -> Result<(), Memory>
+    ensures { OnOk result (text.new ≡ text.old ++ string_bytes line) }
+{
+    text.append(line.as_bytes())
 }
 
 fn shape_line(alloc: Global, shape: &Shape) -> Result<String, AllocError>
