@@ -5,4 +5,5 @@ pub mod Requests
 pub mod Records
 pub mod Tree
 pub mod Documents
+pub mod Shape
 pub mod inner

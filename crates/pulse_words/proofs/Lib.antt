@@ -1,0 +1,6 @@
+mod Leaves
+mod Parsed
+mod PlainWords
+mod Slices
+mod Taken
+mod Walks

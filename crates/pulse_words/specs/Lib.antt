@@ -1,0 +1,3 @@
+pub mod NumberWord
+pub mod Words
+pub mod inner
