@@ -45,7 +45,7 @@ shape_line shape = line (codes "drill") (kind_word shape.kind ++ codes " " ++ de
 abbrev pub answers_line : List Answer → List ℕ
 answers_line answers =
     line (codes "answers")
-        (decimal (how_many is_done answers) ++ codes " " ++ decimal (how_many is_fault answers) ++ codes " " ++ decimal (how_many is_spent answers) ++ codes " " ++ decimal (how_many is_silent answers))
+    (decimal (how_many is_done answers) ++ codes " " ++ decimal (how_many is_fault answers) ++ codes " " ++ decimal (how_many is_spent answers) ++ codes " " ++ decimal (how_many is_silent answers))
 
 -- the SHA-256 of the report's bytes, in lower-case hexadecimal digits
 abbrev pub digest_line : Outcome → List ℕ

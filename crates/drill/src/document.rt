@@ -1,6 +1,6 @@
 // From a shape to the summary of the replay of its document.
 
-ghost use Rattle.std.specs.Prelude.{◌≡◌, ◌≢◌, List, Err, Ok, IfOk};
+ghost use Rattle.std.specs.Prelude.{◌≡◌, List, IfOk};
 ghost use Rattle.node_core.specs.Part.{PartState};
 ghost use Rattle.scenario_text.specs.Accepted.{IsRunnable};
 ghost use Rattle.shape_build.specs.Shape.{InRange};

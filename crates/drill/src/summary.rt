@@ -35,7 +35,12 @@ fn put(text: &mut Bytes, line: String) -> Result<(), Memory>
 fn shape_line(alloc: Global, shape: &Shape) -> Result<String, AllocError>
     ensures { IfOk result (λ line. string_bytes line ≡ s.shape_line shape.now) }
 {
-    format!(in alloc; "drill {} {} {}\n", shape.kind.word(), shape.count, shape.seed)
+    format!(in alloc;
+        "drill {} {} {}\n",
+        shape.kind.word(),
+        shape.count,
+        shape.seed
+    )
 }
 
 fn iterations_line(alloc: Global, turns: usize) -> Result<String, AllocError>

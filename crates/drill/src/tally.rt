@@ -1,6 +1,6 @@
 // How many requests were answered in which way.
 
-ghost use Rattle.std.specs.Prelude.{◌≡◌, ◌+◌, ◌<◌, ◌^◌};
+ghost use Rattle.std.specs.Prelude.{◌≡◌, ◌<◌, ◌^◌};
 ghost use Rattle.drill.specs.inner.Tally.{counted, tally_of};
 
 use pulse_base::Answer;

@@ -5,7 +5,6 @@ use node_core::MemYard;
 use shape_build::{Kind, Shape};
 use std::test::Fail;
 
-
 #[test]
 fn tells_of_one_record(rt: HostRuntime) -> Result<(), Fail> {
     let rows = [

@@ -1,5 +1,5 @@
 -- The numbers of answers, counted together.
-use Rattle.std.specs.Prelude.{ℕ, ◌+◌, Bool, cond, List}
+use Rattle.std.specs.Prelude.{◌+◌, cond, List}
 use Rattle.pulse_base.specs.declared.answer.Answer.{Answer}
 use Rattle.drill.specs.declared.tally.Tally.{Tally}
 use Rattle.drill.specs.Summary.{is_done, is_fault, is_spent, is_silent, how_many}
