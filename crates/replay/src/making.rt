@@ -27,7 +27,7 @@ pub(crate) fn make<N: NodePart>(
     ensures { IfOk result (λ w. IsMade (record { checked = (built.now).checked; plan = plan.now }) (built.now).images w) }
 {
     arguments_fit(plan.requests.as_slice());
-    let switch = switch_of(alloc, built, plan)?;
+    let switch = switch_of(alloc, built.checked(), plan)?;
     let owners = owners_of(alloc, plan.regions.as_slice())?;
     let images = built.copy_images(alloc)?;
     let homes = homes_of(alloc, plan.requests.as_slice())?;

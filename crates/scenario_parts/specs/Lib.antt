@@ -1,3 +1,4 @@
 pub mod Parts
 pub mod Switch
 pub mod Clients
+pub mod Yards

@@ -10,7 +10,6 @@ ghost use Rattle.scenario_parts.specs.Switch.{first_switch};
 
 use iter_check::Checked;
 use pulse_base::{Memory, Numbers};
-use pulse_codegen::Built;
 use range_table::{Regions, Table};
 use scenario_text::{Plan, PlanRegion};
 use std::alloc::Global;
@@ -55,12 +54,12 @@ fn sizes_of(alloc: Global, checked: &Checked) -> Result<Numbers, Memory>
 }
 
 /// The switch of a scenario.
-pub fn switch_of(alloc: Global, built: &Built, plan: &Plan) -> Result<Switch, Memory>
-    requires { IsRunnable (record { checked = (built.now).checked; plan = plan.now }) }
-    ensures { IfOk result (λ s. s ≡ first_switch (record { checked = (built.now).checked; plan = plan.now })) }
+pub fn switch_of(alloc: Global, checked: &Checked, plan: &Plan) -> Result<Switch, Memory>
+    requires { IsRunnable (record { checked = checked.now; plan = plan.now }) }
+    ensures { IfOk result (λ s. s ≡ first_switch (record { checked = checked.now; plan = plan.now })) }
 {
     let table = table_of(alloc, plan.regions.as_slice())?;
     let owners = owners_of(alloc, plan.regions.as_slice())?;
-    let sizes = sizes_of(alloc, built.checked())?;
+    let sizes = sizes_of(alloc, checked)?;
     Ok(Switch::make(table, owners, sizes, plan.clients))
 }

@@ -1,6 +1,8 @@
 use Rattle.std.proofs.Common.{List, map, sym, ap, ◌∙◌, subst}
 use Rattle.pulse_base.specs.declared.plan.RequestPlan.{RequestPlan}
+use Rattle.iter_syntax.specs.declared.tree.Program.{Program}
 use Rattle.scenario_text.specs.declared.scenario.Scenario.{Scenario}
+use Rattle.scenario_parts.specs.Switch.{first_switch}
 use Rattle.world_core.specs.Scene.{Member}
 use Rattle.world_core.specs.inner.Fits.{IsScene}
 use Rattle.replay.specs.inner.Made.{IsMade}
@@ -16,7 +18,7 @@ of-requires-clause-fits g c =
     let members : List Member = map (λ n. record { part = g.N.NodePart.state n; rest = g.N.NodePart.rest n; plain = g.N.NodePart.plain n }) c.args.nodes.items in
     subst IsScene
     (sym (same_scene s images members c.in_ok-switch.switch c.in_ok-images.images c.in_ok-homes.homes c.in_ok-clients.clients.items
-    c.in_ok-switch.ensures
+    (c.in_ok-switch.ensures ∙ ap (λ (p : Program). first_switch (record { checked = p; plan = c.args.plan.now })) c.checked.ensures)
     c.in_ok-images.ensures
     (c.in_ok-homes.ensures ∙ ap (map (λ (q : RequestPlan). q.client)) c.as_slice-3.ensures)
     c.in_ok-clients.ensures))
@@ -29,7 +31,7 @@ returns g c =
     let members : List Member = map (λ n. record { part = g.N.NodePart.state n; rest = g.N.NodePart.rest n; plain = g.N.NodePart.plain n }) c.args.nodes.items in
     subst (IsMade s images)
     (sym (c.of.ensures ∙ same_scene s images members c.in_ok-switch.switch c.in_ok-images.images c.in_ok-homes.homes c.in_ok-clients.clients.items
-    c.in_ok-switch.ensures
+    (c.in_ok-switch.ensures ∙ ap (λ (p : Program). first_switch (record { checked = p; plan = c.args.plan.now })) c.checked.ensures)
     c.in_ok-images.ensures
     (c.in_ok-homes.ensures ∙ ap (map (λ (q : RequestPlan). q.client)) c.as_slice-3.ensures)
     c.in_ok-clients.ensures))
