@@ -1,6 +1,6 @@
 -- What binding a port and refusing a text say.
-use Rattle.std.proofs.Common.{◌≡◌, ◌≢◌, ℕ, ◌+◌, ◌<◌, ◌≤◌, Bool, true, false, List, length, map, Option, Ok, Err, sym, subst, ◌∙◌, arith}
-use Rattle.std.specs.Prelude.{All}
+use Rattle.std.proofs.Common.{◌≡◌, ◌≢◌, ℕ, ◌+◌, ◌<◌, ◌≤◌, Bool, true, false, List, length, map, Option, Ok, Err, sym, subst, ◌∙◌, arith, inl, inr}
+use Rattle.std.specs.Prelude.{◌⊎◌}
 use Rattle.std.proofs.lemmas.List.{length-map}
 use Rattle.pulse_base.specs.Link.{Traffic, Receipt, Sent, Binds}
 use Rattle.pulse_base.specs.Outside.{Rose}
@@ -35,6 +35,16 @@ refused text lacks (fault.Form l) h = absurd (h)
 refused text lacks fault.Link h = tt
 refused text lacks fault.Child h = absurd (h)
 refused text lacks fault.Memory h = tt
+
+-- a loop that ended in a fault
+pub ended : (text : List ℕ) (lacks : FormLimit → Type 0) (f : ProcessFault) → ((f ≡ fault.Link) ⊎ (f ≡ fault.Memory)) → Faults text lacks f
+ended text lacks f (inl e) = subst (Faults text lacks) (sym e) tt
+ended text lacks f (inr e) = subst (Faults text lacks) (sym e) tt
+
+-- which is neither of two others
+pub neither : {A : Type 0} (f : ProcessFault) → ((f ≡ fault.Link) ⊎ (f ≡ fault.Memory)) → f ≢ fault.Link → f ≢ fault.Memory → A
+neither f (inl e) a b = absurd (a e)
+neither f (inr e) a b = absurd (b e)
 
 pub few_regions : (nodes : ℕ) (regions : List PlanRegion) → AreRegions nodes regions → length regions ≤ 64
 few_regions nodes regions h = let long = length-map regions (λ (r : PlanRegion). r.span) in let few = h.table.few in omega (arith, long, few)
