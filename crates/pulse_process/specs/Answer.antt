@@ -1,4 +1,4 @@
--- What is answered of a text by a process of its scenario. Want of memory may be answered at any time; a fault of the link has its
+-- What is answered of a text by a process of its scenario, which starts no children. Want of memory may be answered at any time; a fault of the link has its
 -- cause beside this.
 use Rattle.std.specs.Prelude.{◌≡◌, ◌≢◌, ℕ, ◌≤◌, List, [], ◌∷◌, Option, Result, Ok, Err}
 use Rattle.pulse_base.specs.Link.{Traffic}
@@ -24,7 +24,7 @@ abbrev pub Faults : List ℕ → (FormLimit → Type 0) → ProcessFault → Typ
 Faults text lacks (fault.Document f) = (f ≢ doc.Memory) × ReadAnswer text (Err f)
 Faults text lacks (fault.Form l) = lacks l
 Faults text lacks fault.Link = Unit {0}
-Faults text lacks fault.Child = Unit {0}
+Faults text lacks fault.Child = ⊥
 Faults text lacks fault.Memory = Unit {0}
 
 -- the document has no node n, or no client c
