@@ -8,7 +8,9 @@ use crate::children::{start_all, wait_all};
 use crate::stops::stop_all;
 use pulse_base::{Link, Spawner};
 use pulse_codegen::build;
-use pulse_process::{FormLimit, ProcessFault, Told, ask_bound, client_text, finished, read_scenario};
+use pulse_process::{
+    FormLimit, ProcessFault, Told, ask_bound, client_text, finished, read_scenario,
+};
 use scenario_parts::client_of;
 use scenario_text::Scenario;
 use std::alloc::Global;
