@@ -1,3 +1,4 @@
 pub mod Families
 pub mod Stopping
 pub mod Whole
+pub mod Faults
