@@ -1,8 +1,9 @@
 // A process that is a client.
 
-ghost use Rattle.std.specs.Prelude.{◌≡◌, ◌≢◌, ◌≤◌, ◌<◌, ◌+◌, Bool, Err, IfOk, IfErr};
+ghost use Rattle.std.specs.Prelude.{◌≡◌, ◌≢◌, ◌≤◌, ◌<◌, ◌+◌, Bool, nat_eq, Err, IfOk, IfErr};
 ghost use Rattle.pulse_base.specs.Outside.{Rose};
-ghost use Rattle.pulse_serve.specs.ClientRun.{ServesClient};
+ghost use Rattle.std.specs.List.{IsDistinct};
+ghost use Rattle.pulse_serve.specs.ClientRun.{ServesClient, numbers};
 ghost use Rattle.pulse_process.specs.Ask as a;
 ghost use Rattle.pulse_process.specs.Bound.{BoundTo, end_of};
 ghost use Rattle.pulse_process.specs.Answer.{AskAnswer};
@@ -19,8 +20,10 @@ use scenario_parts::client_of;
 use scenario_text::Scenario;
 use std::alloc::Global;
 
-/// The lines of a client's requests, in order, and the last line. A request that has no answer is open.
+/// The lines of a client's requests, in order, and the last line. A request that has no answer is open. The requests of a client
+/// that was made of a scenario differ in their numbers.
 pub fn client_text(alloc: Global, client: &Client) -> Result<Bytes, Memory>
+    requires differ { IsDistinct nat_eq (numbers client.now) }
     ensures { IfOk result (λ text. text ≡ a.client_text client.now) }
 {
     let mut text = Bytes::new(alloc);
@@ -37,6 +40,7 @@ pub fn ask_bound<L: Link>(net: &mut L, client: &mut Client, c: u16, port: u16, t
     requires client { c < 16 }
     requires port { port ≤ 65000 }
     ensures serves { (f : Bool) → result ≡ end_of f → BoundTo (port + 65 + c) (L.traffic net.old) (L.traffic net.new) (λ rs ss. ServesClient port turns (end_of f) client.old rs client.new ss) }
+    ensures requests { numbers client.new ≡ numbers client.old }
     ensures link { result ≡ Served.LinkFault → Rose (L.faults net.old) (L.faults net.new) }
     ensures kept { result ≢ Served.LinkFault → L.faults net.new ≡ L.faults net.old }
 {
@@ -59,7 +63,8 @@ pub fn run_ask<L: Link>(
     ensures kept { result ≢ Err ProcessFault.Link → result ≢ Err ProcessFault.Memory → L.faults net.new ≡ L.faults net.old }
     ensures refused { IfErr result (λ f. f ≢ ProcessFault.Link → f ≢ ProcessFault.Memory → net.new ≡ net.old) }
 {
-    let Scenario { checked, plan } = read_scenario(alloc, text)?;
+    let scenario = read_scenario(alloc, text)?;
+    let Scenario { checked, plan } = scenario;
     if client >= plan.clients {
         return Err(ProcessFault::Form(FormLimit::Client));
     }

@@ -47,6 +47,10 @@ pub enum ProcessFault {
 }
 
 impl From<Memory> for ProcessFault {
+    ghost use Rattle.pulse_process.specs.declared.fault.ProcessFault.TheVariants as f;
+
+    ghost from_gives = { λ memory fault. fault ≡ f.Memory };
+
     fn from(_memory: Memory) -> ProcessFault
         ensures { result ≡ ProcessFault.Memory }
     {

@@ -1,13 +1,12 @@
 // A process that is a node.
 
-ghost use Rattle.std.specs.Prelude.{◌≡◌, ◌≢◌, ◌≤◌, ◌<◌, ◌+◌, ◌++◌, Bool, codes, length, Err, IfOk, IfErr};
+ghost use Rattle.std.specs.Prelude.{◌≡◌, ◌≢◌, ◌≤◌, ◌<◌, ◌+◌, ◌++◌, All, Bool, codes, length, Err, IfOk, IfErr, OnOk};
 ghost use Rattle.pulse_base.specs.Outside.{Rose};
 ghost use Rattle.run_views.specs.Nodes.{bytes_numbered};
 ghost use Rattle.pulse_serve.specs.Runs.{Serves};
 ghost use Rattle.pulse_serve.specs.NodeRun.{node_loop};
 ghost use Rattle.pulse_process.specs.Bound.{BoundTo, end_of};
-ghost use Rattle.pulse_process.specs.Node as n;
-ghost use Rattle.pulse_process.specs.inner.Held.{AreHeld, IsHeld, SameRegions};
+ghost use Rattle.pulse_process.specs.inner.Held.{HasSpan, HaveSpans, IsHeld, SameRegions, line_here, lines_here};
 ghost use Rattle.pulse_process.specs.Answer.{NodeAnswer};
 
 use crate::document::read_scenario;
@@ -19,7 +18,7 @@ use pulse_codegen::build;
 use pulse_serve::{Served, serve_node};
 use report_text::{OutRegion, region_line};
 use scenario_parts::part_of;
-use scenario_text::{Plan, PlanRegion, Scenario};
+use scenario_text::{PlanRegion, Scenario};
 use std::alloc::Global;
 
 // A region of the plan, as the node has it.
@@ -40,18 +39,40 @@ fn region_of<N: NodePart>(
     })
 }
 
-// The lines of the node's regions, and the last line.
-fn node_text<N: NodePart>(alloc: Global, plan: &Plan, node: u16, part: &N) -> Result<Bytes, Memory>
-    requires few { length plan.now.regions ≤ 64 }
-    requires held { AreHeld (N.state part.now) node plan.now.regions }
-    ensures { IfOk result (λ text. text ≡ n.region_lines node (N.state part.now).node.regions 0 plan.now.regions ++ codes "end\n") }
+// Puts the line of a region of the plan, where the node has it.
+fn put_region<N: NodePart>(
+    alloc: Global,
+    text: &mut Bytes,
+    part: &N,
+    number: u16,
+    region: &PlanRegion,
+) -> Result<(), Memory>
+    requires filled { length region.now.bytes ≡ (region.now.span).len }
+    requires span { HasSpan (N.state part.now) number region.now }
+    ensures { OnOk result (text.new ≡ text.old ++ line_here (N.state part.now) number region.now) }
+{
+    if !part.has_region(number) {
+        return Ok(());
+    }
+    let out = region_of(alloc, part, number, region)?;
+    let line = region_line(alloc, u32::from(number), &out)?;
+    text.append(line.as_slice())
+}
+
+// The lines of those regions of the plan that the node has, and the last line.
+fn node_text<N: NodePart>(
+    alloc: Global,
+    regions: &[PlanRegion],
+    part: &N,
+) -> Result<Bytes, Memory>
+    requires few { length regions.now ≤ 64 }
+    requires filled { All (λ r. length r.bytes ≡ (r.span).len) regions.now }
+    requires spans { HaveSpans (N.state part.now) regions.now }
+    ensures { IfOk result (λ text. text ≡ lines_here (N.state part.now) 0 regions.now ++ codes "end\n") }
 {
     let mut text = Bytes::new(alloc);
-    'regions: for (k, region) in plan.regions.as_slice().iter().enumerate() {
-        if region.node == node {
-            let out = region_of(alloc, part, k as u16, region)?;
-            text.append(region_line(alloc, k as u32, &out)?.as_slice())?;
-        }
+    'regions: for (k, region) in regions.iter().enumerate() {
+        put_region(alloc, &mut text, part, k as u16, region)?;
     }
     text.append(b"end\n")?;
     Ok(text)
@@ -68,7 +89,7 @@ fn serve<L: Link, N: NodePart>(
     requires node { node < 64 }
     requires port { port ≤ 65000 }
     ensures serves { (f : Bool) → result ≡ end_of f → BoundTo (port + 1 + node) (L.traffic net.old) (L.traffic net.new) (λ rs ss. Serves (node_loop (N.plain part.old) port) turns (end_of f) (N.state part.old) rs (N.state part.new) ss) }
-    ensures held { SameRegions (N.state part.old) (N.state part.new) }
+    ensures same { SameRegions (N.state part.old) (N.state part.new) }
     ensures link { result ≡ Served.LinkFault → Rose (L.faults net.old) (L.faults net.new) }
     ensures kept { result ≢ Served.LinkFault → L.faults net.new ≡ L.faults net.old }
 {
@@ -93,14 +114,15 @@ pub fn run_node<L: Link, Y: Yard>(
     ensures kept { result ≢ Err ProcessFault.Link → result ≢ Err ProcessFault.Memory → L.faults net.new ≡ L.faults net.old }
     ensures refused { IfErr result (λ f. f ≢ ProcessFault.Link → f ≢ ProcessFault.Memory → (net.new ≡ net.old) × (yard.new ≡ yard.old)) }
 {
-    let Scenario { checked, plan } = read_scenario(alloc, text)?;
+    let scenario = read_scenario(alloc, text)?;
+    let Scenario { checked, plan } = scenario;
     if node >= plan.nodes {
         return Err(ProcessFault::Form(FormLimit::Node));
     }
     let built = build(alloc, checked)?;
     let mut part = part_of(alloc, yard, &built, &plan, node)?;
     let served = serve(net, &mut part, node, plan.port, turns);
-    let text = node_text(alloc, &plan, node, &part);
+    let text = node_text(alloc, plan.regions.as_slice(), &part);
     yard.give_back(part)?;
     let finished = finished(served)?;
     let text = text?;

@@ -45,7 +45,8 @@ pub fn run_switch<L: Link>(
     ensures kept { result ≢ Err ProcessFault.Link → result ≢ Err ProcessFault.Memory → L.faults net.new ≡ L.faults net.old }
     ensures refused { IfErr result (λ f. f ≢ ProcessFault.Link → f ≢ ProcessFault.Memory → net.new ≡ net.old) }
 {
-    let Scenario { checked, plan } = read_scenario(alloc, text)?;
+    let scenario = read_scenario(alloc, text)?;
+    let Scenario { checked, plan } = scenario;
     let switch = switch_of(alloc, &checked, &plan)?;
     let served = serve(net, &switch, plan.port, turns);
     let finished = finished(served)?;

@@ -1,6 +1,6 @@
 // What a process tells when it ends.
 
-ghost use Rattle.std.specs.Prelude.{◌≡◌, ◌≢◌, Err, IfOk};
+ghost use Rattle.std.specs.Prelude.{◌≡◌, ◌⊎◌, Err, IfOk, IfErr};
 ghost use Rattle.pulse_process.specs.Bound.{end_of};
 
 use crate::fault::ProcessFault;
@@ -19,6 +19,8 @@ pub struct Told {
 pub fn finished(served: Served) -> Result<bool, ProcessFault>
     ensures ends { IfOk result (λ f. served ≡ end_of f) }
     ensures link { result ≡ Err ProcessFault.Link → served ≡ Served.LinkFault }
+    ensures lost { served ≡ Served.LinkFault → result ≡ Err ProcessFault.Link }
+    ensures fault { IfErr result (λ f. (f ≡ ProcessFault.Link) ⊎ (f ≡ ProcessFault.Memory)) }
 {
     match served {
         Served::Stopped => Ok(true),
