@@ -1,0 +1,4 @@
+pub mod Families
+pub mod Stopping
+pub mod Whole
+pub mod Faults

@@ -8,7 +8,9 @@ use crate::children::{start_all, wait_all};
 use crate::stops::stop_all;
 use pulse_base::{Link, Spawner};
 use pulse_codegen::build;
-use pulse_process::{FormLimit, ProcessFault, Told, ask_bound, client_text, finished, read_scenario};
+use pulse_process::{
+    FormLimit, ProcessFault, Told, ask_bound, client_text, finished, read_scenario,
+};
 use scenario_parts::client_of;
 use scenario_text::Scenario;
 use std::alloc::Global;
@@ -27,7 +29,8 @@ pub fn run_cluster<L: Link, S: Spawner>(
     ensures child { result ≡ Err ProcessFault.Child → Rose (S.faults kids.old) (S.faults kids.new) }
     ensures refused { IfErr result (λ f. f ≢ ProcessFault.Link → f ≢ ProcessFault.Child → f ≢ ProcessFault.Memory → (net.new ≡ net.old) × (kids.new ≡ kids.old)) }
 {
-    let Scenario { checked, plan } = read_scenario(alloc, text)?;
+    let scenario = read_scenario(alloc, text)?;
+    let Scenario { checked, plan } = scenario;
     if plan.clients != 1 {
         return Err(ProcessFault::Form(FormLimit::Clients));
     }

@@ -14,6 +14,7 @@ mod switch_loop;
 mod tests;
 
 pub use client_loop::ask_all;
+pub use frames::post;
 pub use node_loop::serve_node;
 pub use served::Served;
 pub use switch_loop::serve_switch;
