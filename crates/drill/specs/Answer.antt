@@ -10,7 +10,7 @@ use Rattle.shape_build.specs.declared.shape.Shape.{Shape}
 use Rattle.shape_build.specs.Shape.{shape_text}
 use Rattle.replay.specs.declared.scenario.Replayed.{Replayed}
 use Rattle.replay.specs.Report.{IsReplayed}
-use Rattle.replay.specs.Answer.{GivesBack}
+use Rattle.scenario_parts.specs.Yards.{GivesBack}
 use Rattle.drill.specs.Summary.{summary}
 
 -- want of memory may be answered at any time

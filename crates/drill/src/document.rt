@@ -4,7 +4,7 @@ ghost use Rattle.std.specs.Prelude.{◌≡◌, List, IfOk};
 ghost use Rattle.node_core.specs.Part.{PartState};
 ghost use Rattle.scenario_text.specs.Accepted.{IsRunnable};
 ghost use Rattle.shape_build.specs.Shape.{InRange};
-ghost use Rattle.replay.specs.Answer.{GivesBack};
+ghost use Rattle.scenario_parts.specs.Yards.{GivesBack};
 ghost use Rattle.replay.specs.Report.{IsReplayed};
 ghost use Rattle.drill.specs.Answer.{DrillAnswer, IsRefused};
 ghost use Rattle.drill.specs.Summary.{summary};

@@ -26,7 +26,7 @@ use Rattle.scenario_run.specs.Start.{start_of}
 use Rattle.run_explained.specs.Explained.{HoldsRegion}
 use Rattle.report_text.specs.Report as text
 use Rattle.replay.specs.declared.scenario.Replayed.{Replayed}
-use Rattle.replay.specs.Answer.{GivesBack}
+use Rattle.scenario_parts.specs.Yards.{GivesBack}
 use Rattle.replay.specs.Report.{IsReplay, IsReplayed, bytes_in}
 use Rattle.replay.specs.Report as replay
 use Rattle.flat_walk.specs.Form.{asked, asks_for_one_walk}

@@ -4,7 +4,7 @@ use Rattle.node_core.specs.Part.{PartState}
 use Rattle.scenario_text.specs.declared.fault.DocFault.TheVariants as doc
 use Rattle.scenario_text.specs.declared.scenario.Scenario.{Scenario}
 use Rattle.scenario_text.specs.Scenario.{ReadAnswer}
-use Rattle.replay.specs.Answer.{GivesBack}
+use Rattle.scenario_parts.specs.Yards.{GivesBack}
 use Rattle.replay.specs.Report.{IsReplay}
 use Rattle.flat_walk.specs.declared.fault.WalkFault.{WalkFault}
 use Rattle.flat_walk.specs.declared.fault.WalkFault.TheVariants as fault

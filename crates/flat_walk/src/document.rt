@@ -3,7 +3,7 @@
 ghost use Rattle.std.specs.Prelude.{◌≡◌, List, true, [], ◌∷◌, IfOk};
 ghost use Rattle.node_core.specs.Part.{PartState};
 ghost use Rattle.scenario_text.specs.Accepted.{IsRunnable};
-ghost use Rattle.replay.specs.Answer.{GivesBack};
+ghost use Rattle.scenario_parts.specs.Yards.{GivesBack};
 ghost use Rattle.replay.specs.Report.{IsReplay};
 ghost use Rattle.flat_walk.specs.Form as f;
 ghost use Rattle.flat_walk.specs.Report.{IsWalkReport};

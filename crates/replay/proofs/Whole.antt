@@ -27,7 +27,7 @@ use Rattle.world_core.specs.Drains as drained
 use Rattle.world_core.specs.inner.Fits.{IsScene}
 use Rattle.replay.specs.declared.scenario.Replayed.{Replayed}
 use Rattle.replay.specs.Report.{IsReplayed, AreNodesOf, out_regions, traces_of}
-use Rattle.replay.specs.Answer.{GivesBack}
+use Rattle.scenario_parts.specs.Yards.{GivesBack}
 use Rattle.replay.specs.inner.Held.{AreHeld}
 use Rattle.replay.specs.inner.Made.{IsMade}
 use Rattle.replay.specs.inner.Runs.{Lasts, RunsEvents}

@@ -1,15 +1,12 @@
 -- What is answered of a text: the report of its replay and the nodes that are given back, or why it is refused.
-use Rattle.std.specs.Prelude.{◌≡◌, ℕ, List, ◌++◌, Option, option_map, Result, Ok, Err}
+use Rattle.std.specs.Prelude.{ℕ, List, Option, Result, Ok, Err}
 use Rattle.node_core.specs.Part.{PartState}
 use Rattle.scenario_text.specs.declared.fault.DocFault.{DocFault}
 use Rattle.scenario_text.specs.declared.fault.DocFault.TheVariants as doc
 use Rattle.scenario_text.specs.declared.scenario.Scenario.{Scenario}
 use Rattle.scenario_text.specs.Scenario.{ReadAnswer}
+use Rattle.scenario_parts.specs.Yards.{GivesBack}
 use Rattle.replay.specs.Report.{IsReplay}
-
--- the yard has these parts more
-abbrev pub GivesBack : Option (List PartState) → Option (List PartState) → List PartState → Type 0
-GivesBack old new parts = new ≡ option_map (λ before. before ++ parts) old
 
 -- want of memory may be answered at any time
 abbrev pub ReplayAnswer : List ℕ → (old new : Option (List PartState)) → Result (List ℕ) DocFault → Type 0

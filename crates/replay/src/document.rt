@@ -1,9 +1,10 @@
 // From a document to the report of its schedule's run.
 
-ghost use Rattle.std.specs.Prelude.{List, IfOk};
+ghost use Rattle.std.specs.Prelude.{◌≡◌, ◌≢◌, List, IfErr, IfOk};
 ghost use Rattle.node_core.specs.Part.{PartState};
 ghost use Rattle.scenario_text.specs.Accepted.{IsRunnable};
-ghost use Rattle.replay.specs.Answer.{GivesBack, ReplayAnswer};
+ghost use Rattle.scenario_parts.specs.Yards.{GivesBack};
+ghost use Rattle.replay.specs.Answer.{ReplayAnswer};
 ghost use Rattle.replay.specs.Report.{IsReplay};
 
 use crate::scenario::run_scenario;
@@ -26,6 +27,7 @@ fn report_of<Y: Yard>(alloc: Global, scenario: Scenario, yard: &mut Y) -> Result
 /// of number. The work grows with the text and with the iterations that are made.
 pub fn replay<Y: Yard>(alloc: Global, text: &[u8], yard: &mut Y) -> Result<Bytes, DocFault>
     ensures answer { ReplayAnswer text.now (Y.returned yard.old) (Y.returned yard.new) result }
+    ensures refused { IfErr result (λ fault. fault ≢ DocFault.Memory → yard.new ≡ yard.old) }
 {
     let scenario = read(alloc, text)?;
     match report_of(alloc, scenario, yard) {

@@ -2,7 +2,7 @@ use Rattle.std.proofs.Common.{List, sym, subst}
 use Rattle.node_core.specs.Part.{PartState}
 use Rattle.scenario_text.specs.declared.scenario.Scenario.{Scenario}
 use Rattle.scenario_text.specs.Accepted.{IsRunnable}
-use Rattle.replay.specs.Answer.{GivesBack}
+use Rattle.scenario_parts.specs.Yards.{GivesBack}
 use Rattle.replay.specs.Report.{IsReplayed}
 use Rattle.flat_walk.proofs.OneWalk.{asked_runs}
 use Rattle.flat_walk.proofs.Walks.{reports}

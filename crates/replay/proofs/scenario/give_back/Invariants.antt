@@ -1,5 +1,5 @@
 use Rattle.std.proofs.Common.{map}
-use Rattle.replay.specs.Answer.{GivesBack}
+use Rattle.scenario_parts.specs.Yards.{GivesBack}
 use Rattle.replay.proofs.scenario.give_back.Given as goal
 
 abbrev pub invariant-loop-part : goal.invariant-loop-part

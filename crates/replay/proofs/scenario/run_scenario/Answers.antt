@@ -3,7 +3,7 @@ use Rattle.iter_syntax.specs.declared.tree.Program.{Program}
 use Rattle.pulse_codegen.specs.Compiled.{CompilesAll}
 use Rattle.world_core.specs.Scene.{Member}
 use Rattle.world_core.specs.inner.Fits.{IsScene}
-use Rattle.replay.specs.Answer.{GivesBack}
+use Rattle.scenario_parts.specs.Yards.{GivesBack}
 use Rattle.replay.specs.inner.Made.{IsMade}
 use Rattle.replay.specs.inner.Runs.{RunsEvents}
 use Rattle.replay.proofs.Scenes.{parts_same}
