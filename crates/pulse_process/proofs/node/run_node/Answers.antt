@@ -36,7 +36,7 @@ returns-in_err-scenario-clause-answer g c =
 
 pub returns-in_err-finished-clause-answer : goal.returns-in_err-finished-clause-answer
 returns-in_err-finished-clause-answer g c =
-    let p = err_from_is_err_and c.from_residual.result c.from_residual.ensures.1 in
+    let p = err_from_is_err_and c.from_residual-in_err-finished.result c.from_residual-in_err-finished.ensures.1 in
     rw (p.1, p.2) (ended c.args.text.now (LacksNode c.args.text.now c.args.node) c.in_err-finished.field-0.0 c.in_err-finished.ensures.fault)
 
 pub returns-clause-answer : goal.returns-clause-answer

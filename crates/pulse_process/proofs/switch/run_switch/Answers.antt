@@ -24,17 +24,17 @@ serve-served-requires-clause-clients g c = subst (λ (x : SwitchState). x.client
 
 pub returns-in_err-finished-clause-answer : goal.returns-in_err-finished-clause-answer
 returns-in_err-finished-clause-answer g c =
-    let p = err_from_is_err_and c.from_residual.result c.from_residual.ensures.1 in
+    let p = err_from_is_err_and c.from_residual-in_err-finished.result c.from_residual-in_err-finished.ensures.1 in
     rw (p.1, p.2) (ended c.args.text.now (λ l. ⊥) c.in_err-finished.field-0.0 c.in_err-finished.ensures.fault)
 
 pub returns-in_err-finished-clause-kept : goal.returns-in_err-finished-clause-kept
 returns-in_err-finished-clause-kept g c =
-    let p = err_from_is_err_and c.from_residual.result c.from_residual.ensures.1 in
-    neither_of c.from_residual.result c.in_err-finished.field-0.0 (p.1 ∙ ap Err p.2) c.in_err-finished.ensures.fault
+    let p = err_from_is_err_and c.from_residual-in_err-finished.result c.from_residual-in_err-finished.ensures.1 in
+    neither_of c.from_residual-in_err-finished.result c.in_err-finished.field-0.0 (p.1 ∙ ap Err p.2) c.in_err-finished.ensures.fault
 
 pub returns-in_err-finished-clause-refused : goal.returns-in_err-finished-clause-refused
 returns-in_err-finished-clause-refused g c =
-    let p = err_from_is_err_and c.from_residual.result c.from_residual.ensures.1 in
+    let p = err_from_is_err_and c.from_residual-in_err-finished.result c.from_residual-in_err-finished.ensures.1 in
     rw (p.1, p.2) (neither c.in_err-finished.field-0.0 c.in_err-finished.ensures.fault)
 
 pub returns-clause-answer : goal.returns-clause-answer
