@@ -35,21 +35,21 @@ returns-in_err-scenario-clause-answer g c =
 
 pub returns-in_err-started-clause-answer : goal.returns-in_err-started-clause-answer
 returns-in_err-started-clause-answer g c =
-    passed (ClusterAnswer c.args.text.now c.args.turns (g.L.Link.traffic c.args.net.now) (g.L.Link.traffic c.args.net.now) (g.S.Spawner.family c.args.kids.now) (g.S.Spawner.family c.start_all.new.kids)) c.from_residual.result c.in_err-started.field-0.0 c.from_residual.ensures.1
+    passed (ClusterAnswer c.args.text.now c.args.turns (g.L.Link.traffic c.args.net.now) (g.L.Link.traffic c.args.net.now) (g.S.Spawner.family c.args.kids.now) (g.S.Spawner.family c.start_all.new.kids)) c.from_residual-in_err-started.result c.in_err-started.field-0.0 c.from_residual-in_err-started.ensures.1
     (not_started (λ e. ClusterAnswer c.args.text.now c.args.turns (g.L.Link.traffic c.args.net.now) (g.L.Link.traffic c.args.net.now) (g.S.Spawner.family c.args.kids.now) (g.S.Spawner.family c.start_all.new.kids) (Err e)) c.in_err-started.field-0.0 c.in_err-started.ensures.fault tt tt)
 
 pub returns-in_err-started-clause-refused : goal.returns-in_err-started-clause-refused
 returns-in_err-started-clause-refused g c =
-    barred _ c.from_residual.result c.in_err-started.field-0.0 c.from_residual.ensures.1 (not_started IsOutside c.in_err-started.field-0.0 c.in_err-started.ensures.fault child_outside memory_outside)
+    barred _ c.from_residual-in_err-started.result c.in_err-started.field-0.0 c.from_residual-in_err-started.ensures.1 (not_started IsOutside c.in_err-started.field-0.0 c.in_err-started.ensures.fault child_outside memory_outside)
 
 pub returns-in_err-finished-clause-answer : goal.returns-in_err-finished-clause-answer
 returns-in_err-finished-clause-answer g c =
-    passed (ClusterAnswer c.args.text.now c.args.turns (g.L.Link.traffic c.args.net.now) (g.L.Link.traffic c.ask_bound-served.new.net) (g.S.Spawner.family c.args.kids.now) (g.S.Spawner.family c.start_all.new.kids)) c.from_residual.result c.in_err-finished.field-0.0 c.from_residual.ensures.1
+    passed (ClusterAnswer c.args.text.now c.args.turns (g.L.Link.traffic c.args.net.now) (g.L.Link.traffic c.ask_bound-served.new.net) (g.S.Spawner.family c.args.kids.now) (g.S.Spawner.family c.start_all.new.kids)) c.from_residual-in_err-finished.result c.in_err-finished.field-0.0 c.from_residual-in_err-finished.ensures.1
     (not_asked (λ e. ClusterAnswer c.args.text.now c.args.turns (g.L.Link.traffic c.args.net.now) (g.L.Link.traffic c.ask_bound-served.new.net) (g.S.Spawner.family c.args.kids.now) (g.S.Spawner.family c.start_all.new.kids) (Err e)) c.in_err-finished.field-0.0 c.in_err-finished.ensures.fault tt tt)
 
 pub returns-in_err-finished-clause-refused : goal.returns-in_err-finished-clause-refused
 returns-in_err-finished-clause-refused g c =
-    barred _ c.from_residual.result c.in_err-finished.field-0.0 c.from_residual.ensures.1 (not_asked IsOutside c.in_err-finished.field-0.0 c.in_err-finished.ensures.fault link_outside memory_outside)
+    barred _ c.from_residual-in_err-finished.result c.in_err-finished.field-0.0 c.from_residual-in_err-finished.ensures.1 (not_asked IsOutside c.in_err-finished.field-0.0 c.in_err-finished.ensures.fault link_outside memory_outside)
 
 pub returns-in_err-stop_all-clause-link : goal.returns-in_err-stop_all-clause-link
 returns-in_err-stop_all-clause-link g c =
@@ -58,11 +58,11 @@ returns-in_err-stop_all-clause-link g c =
 
 pub returns-in_err-text-clause-answer : goal.returns-in_err-text-clause-answer
 returns-in_err-text-clause-answer g c =
-    passed (ClusterAnswer c.args.text.now c.args.turns (g.L.Link.traffic c.args.net.now) (g.L.Link.traffic c.stop_all.new.net) (g.S.Spawner.family c.args.kids.now) (g.S.Spawner.family c.wait_all.new.kids)) c.from_residual.result fault.Memory c.from_residual.ensures.1 tt
+    passed (ClusterAnswer c.args.text.now c.args.turns (g.L.Link.traffic c.args.net.now) (g.L.Link.traffic c.stop_all.new.net) (g.S.Spawner.family c.args.kids.now) (g.S.Spawner.family c.wait_all.new.kids)) c.from_residual-in_err-text.result fault.Memory c.from_residual-in_err-text.ensures.1 tt
 
 pub returns-in_err-text-clause-refused : goal.returns-in_err-text-clause-refused
 returns-in_err-text-clause-refused g c =
-    barred _ c.from_residual.result fault.Memory c.from_residual.ensures.1 memory_outside
+    barred _ c.from_residual-in_err-text.result fault.Memory c.from_residual-in_err-text.ensures.1 memory_outside
 
 pub returns-clause-answer : goal.returns-clause-answer
 returns-clause-answer g c =
