@@ -1,12 +1,9 @@
 -- What binding a port and refusing a text say.
-use Rattle.std.proofs.Common.{◌≡◌, ◌≢◌, ℕ, ◌+◌, ◌<◌, ◌≤◌, Bool, true, false, List, length, map, Option, Ok, Err, sym, subst, ◌∙◌, arith, inl, inr}
+use Rattle.std.proofs.Common.{◌≡◌, ◌≢◌, ℕ, ◌+◌, ◌<◌, ◌≤◌, Bool, true, false, List, length, map, Option, Result, Ok, Err, sym, ap, subst, ◌∙◌, arith, inl, inr}
 use Rattle.std.specs.Prelude.{◌⊎◌}
-use Rattle.std.proofs.lemmas.List.{length-map}
 use Rattle.pulse_base.specs.Link.{Traffic, Receipt, Sent, Binds}
 use Rattle.pulse_base.specs.Outside.{Rose}
 use Rattle.pulse_base.specs.declared.source.Failed.{Failed}
-use Rattle.scenario_text.specs.declared.plan.PlanRegion.{PlanRegion}
-use Rattle.scenario_text.specs.Accepted.{AreRegions}
 use Rattle.pulse_serve.specs.declared.served.Served.{Served}
 use Rattle.pulse_serve.specs.declared.served.Served.TheVariants as served
 use Rattle.pulse_serve.specs.Frames.{Over}
@@ -46,5 +43,6 @@ pub neither : {A : Type 0} (f : ProcessFault) → ((f ≡ fault.Link) ⊎ (f ≡
 neither f (inl e) a b = absurd (a e)
 neither f (inr e) a b = absurd (b e)
 
-pub few_regions : (nodes : ℕ) (regions : List PlanRegion) → AreRegions nodes regions → length regions ≤ 64
-few_regions nodes regions h = let long = length-map regions (λ (r : PlanRegion). r.span) in let few = h.table.few in omega (arith, long, few)
+pub neither_of : {A T : Type 0} (r : Result T ProcessFault) (f : ProcessFault) → r ≡ Err f → ((f ≡ fault.Link) ⊎ (f ≡ fault.Memory)) → r ≢ Err fault.Link → r ≢ Err fault.Memory → A
+neither_of r f is (inl e) a b = absurd (a (is ∙ ap Err e))
+neither_of r f is (inr e) a b = absurd (b (is ∙ ap Err e))

@@ -21,7 +21,7 @@ pub enum FormLimit {
 impl FormLimit {
     /// The word for it in an error line.
     pub fn word(self) -> &'static str
-        ensures { result ≡ limit_word self }
+        ensures { result.now ≡ limit_word self }
     {
         match self {
             FormLimit::Node => "node",

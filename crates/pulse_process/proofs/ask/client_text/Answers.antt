@@ -14,6 +14,6 @@ requests-preserved c =
 
 pub returns : goal.returns
 returns c =
-    let long : length c.args.client.now.requests ≤ c.requests.k = omega (arith, c.requests-test.false, c.len.ensures) in
+    let long : length c.args.client.now.requests ≤ c.requests.k = omega (arith, c.requests-test.false, c.len-k-end.ensures) in
     c.in_ok-append-2.ensures.ok
     ∙ ap (λ t. t ++ codes "end\n") (all_lines request_lines c.args.client.now.requests c.requests.k c.requests.text _ refl long c.requests.invariant)

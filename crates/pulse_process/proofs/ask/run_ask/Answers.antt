@@ -1,5 +1,6 @@
 use Rattle.std.proofs.Common.{◌≡◌, ◌+◌, ◌<◌, nat_eq, sym, ap, subst, ◌∙◌, arith}
 use Rattle.std.specs.List.{IsDistinct}
+use Rattle.std.proofs.lemmas.Result.{err_from_is_err_and}
 use Rattle.iter_syntax.specs.declared.tree.Program.{Program}
 use Rattle.client_core.specs.Requests.{ClientState}
 use Rattle.pulse_codegen.specs.Compiled.{CompilesAll}
@@ -21,14 +22,20 @@ client_text-requires g c =
     let s = c.in_ok-scenario.scenario in
     let built = c.in_ok-built.built in
     let runnable = subst (λ (p : Program). IsRunnable (record { checked = p; plan = s.plan })) (sym c.in_ok-built.ensures) c.in_ok-scenario.ensures.runnable in
-    subst (IsDistinct nat_eq) (sym (c.ask_bound-served.ensures.requests ∙ ap numbers c.in_ok-asking.ensures))
-    (first_differ (record { checked = built.checked; plan = s.plan }) built.images built.compiled runnable c.args.client)
+    record {
+      differ = subst (IsDistinct nat_eq) (sym (c.ask_bound-served.ensures.requests ∙ ap numbers c.in_ok-asking.ensures))
+          (first_differ (record { checked = built.checked; plan = s.plan }) built.images built.compiled runnable c.args.client);
+    }
 
 pub returns-in_err-scenario-clause-answer : goal.returns-in_err-scenario-clause-answer
-returns-in_err-scenario-clause-answer g c = refused c.args.text.now (LacksClient c.args.text.now c.args.client) c.in_err-scenario.field-0 c.in_err-scenario.ensures.refused
+returns-in_err-scenario-clause-answer g c =
+    let p = err_from_is_err_and c.from_residual.result c.from_residual.ensures.1 in
+    rw (p.1, p.2) (refused c.args.text.now (LacksClient c.args.text.now c.args.client) c.in_err-scenario.field-0.0 c.in_err-scenario.ensures.refused)
 
 pub returns-in_err-finished-clause-answer : goal.returns-in_err-finished-clause-answer
-returns-in_err-finished-clause-answer g c = ended c.args.text.now (LacksClient c.args.text.now c.args.client) c.in_err-finished.field-0 c.in_err-finished.ensures.fault
+returns-in_err-finished-clause-answer g c =
+    let p = err_from_is_err_and c.from_residual-in_err-finished.result c.from_residual-in_err-finished.ensures.1 in
+    rw (p.1, p.2) (ended c.args.text.now (LacksClient c.args.text.now c.args.client) c.in_err-finished.field-0.0 c.in_err-finished.ensures.fault)
 
 pub returns-clause-answer : goal.returns-clause-answer
 returns-clause-answer g c =

@@ -4,10 +4,6 @@ use Rattle.scenario_text.specs.declared.plan.PlanRegion.{PlanRegion}
 use Rattle.scenario_run.proofs.Lists.{all_at}
 use Rattle.pulse_process.specs.inner.Held.{line_here, lines_here}
 use Rattle.pulse_process.proofs.Telling.{one_line, all_lines, next_region}
-use Rattle.pulse_process.proofs.Serving.{serves_same}
-use Rattle.pulse_process.proofs.Placing.{lines_are}
-use Rattle.pulse_process.proofs.Answering.{bound}
-use Rattle.pulse_process.proofs.Asking.{serves_keep}
 use Rattle.pulse_process.proofs.node.node_text.Goals as goal
 
 pub put_region-requires-clause-filled : goal.put_region-requires-clause-filled
