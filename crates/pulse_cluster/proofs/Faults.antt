@@ -1,5 +1,6 @@
 -- The answers of a cluster that ended with a fault.
-use Rattle.std.proofs.Common.{◌≡◌, ℕ, List, Option, Err, ◌⊎◌, inl, inr, sym, subst}
+use Rattle.std.proofs.Common.{◌≡◌, ◌≢◌, ℕ, List, Option, Result, Ok, Err, IfErr, ◌⊎◌, inl, inr, refl, sym, subst, ◌∙◌}
+use Rattle.std.specs.Prelude.{IsErrAnd}
 use Rattle.pulse_base.specs.Link.{Traffic}
 use Rattle.pulse_base.specs.Spawner.{Family}
 use Rattle.pulse_process.specs.declared.fault.FormLimit.{FormLimit}
@@ -16,6 +17,35 @@ refused text turns net now old new fault.Link h = tt
 refused text turns net now old new fault.Child h = tt
 refused text turns net now old new fault.Memory h = tt
 
--- what holds of each of two faults
-pub one_of : (P : ProcessFault → Type 0) (f a b : ProcessFault) → (f ≡ a) ⊎ (f ≡ b) → P a → P b → P f
-one_of P f a b h x y = elim h [ inl e ↦ subst P (sym e) x | inr e ↦ subst P (sym e) y ]
+-- ---- a fault that a step handed up
+
+pub passed : {T : Type 0} (P : Result T ProcessFault → Type 0) (r : Result T ProcessFault) (e : ProcessFault) → IsErrAnd r (λ y. y ≡ e) → P (Err e) → P r
+passed P (Ok x) e is p = absurd (is)
+passed P (Err y) e is p = subst (λ z. P (Err z)) (sym is) p
+
+-- a fault of a start
+pub not_started : (P : ProcessFault → Type 0) (e : ProcessFault) → (e ≡ fault.Child) ⊎ (e ≡ fault.Memory) → P fault.Child → P fault.Memory → P e
+not_started P e (inl q) x y = subst P (sym q) x
+not_started P e (inr q) x y = subst P (sym q) y
+
+-- a fault of the asking
+pub not_asked : (P : ProcessFault → Type 0) (e : ProcessFault) → (e ≡ fault.Link) ⊎ (e ≡ fault.Memory) → P fault.Link → P fault.Memory → P e
+not_asked P e (inl q) x y = subst P (sym q) x
+not_asked P e (inr q) x y = subst P (sym q) y
+
+-- a fault after which nothing is said of what was called
+abbrev pub IsOutside : ProcessFault → Type 0
+IsOutside e = e ≢ fault.Link → e ≢ fault.Child → e ≢ fault.Memory → ⊥
+
+pub link_outside : IsOutside fault.Link
+link_outside n m k = n refl
+
+pub child_outside : IsOutside fault.Child
+child_outside n m k = m refl
+
+pub memory_outside : IsOutside fault.Memory
+memory_outside n m k = k refl
+
+pub barred : {T : Type 0} (A : Type 0) (r : Result T ProcessFault) (e : ProcessFault) → IsErrAnd r (λ y. y ≡ e) → IsOutside e → IfErr r (λ f. f ≢ fault.Link → f ≢ fault.Child → f ≢ fault.Memory → A)
+barred A (Ok x) e is h = tt
+barred A (Err y) e is h = λ n m k. absurd (h (λ q. n (is ∙ q)) (λ q. m (is ∙ q)) (λ q. k (is ∙ q)))

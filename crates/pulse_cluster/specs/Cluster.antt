@@ -56,13 +56,13 @@ stops port nodes = node_stops port 0 nodes ++ three_stops port
 
 -- All nodes and then the switch were started, each with the document as its input; client 0 asked all requests in so many turns at
 -- most; all were stopped; and all were waited for in the order of their starts.
-pub record IsCluster (s : Scenario) (text : List ℕ) (turns : ℕ) (net now : Option Traffic) (old new : Option Family) (told : Told) : Type 0 where
+pub record IsCluster (s : Scenario) (input : List ℕ) (turns : ℕ) (net now : Option Traffic) (old new : Option Family) (told : Told) : Type 0 where
   pub one : (s.plan).clients ≡ 1
   pub images : List Image
   pub compiled : CompilesAll s.checked images
   pub client : ClientState
   pub kids : List ℕ
   pub all : length kids ≡ (s.plan).nodes + 1
-  pub family : FamilyGrew old new (starts text (child_words turns 0 (s.plan).nodes) kids) kids
+  pub family : FamilyGrew old new (starts input (child_words turns 0 (s.plan).nodes) kids) kids
   pub serves : BoundTo ((s.plan).port + 65) net now (λ rs ss. (asked : List Sent) × ServesClient (s.plan).port turns (end_of told.finished) (first_client s.plan images 0) rs client asked × (ss ≡ asked ++ stops (s.plan).port (s.plan).nodes))
   pub text : told.text ≡ client_text client
