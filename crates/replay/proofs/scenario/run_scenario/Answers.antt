@@ -48,7 +48,7 @@ returns g c =
     let v = c.run_events.new.world in
     let parts = map g.Y.Part.NodePart.state c.end.result.items in (
       parts,
-      whole s c.requires images w v c.drain.new.self c.in_ok-traces.traces (record { outcome = c.in_ok-outcome.outcome; letters = c.letters.result }) parts
+      whole s c.requires images w v c.drain.new.self c.in_ok-traces.traces (record { outcome = c.in_ok-outcome.outcome; letters = c.letters-letters.result }) parts
           (subst (λ (p : Program). CompilesAll p images) c.in_ok-built.ensures c.in_ok-built.built.compiled)
           (subst (λ (p : Program). IsMade (record { checked = p; plan = s.plan }) images w) c.in_ok-built.ensures c.in_ok-world.ensures)
           (subst (λ es. RunsEvents w v es (s.plan).trace c.in_ok-traces.traces) c.as_slice.ensures c.in_ok-traces.ensures.runs)
@@ -56,7 +56,7 @@ returns g c =
           (lasts_on w v c.drain.new.self c.in_ok-traces.ensures.lasts c.drain.ensures.stays)
           (subst IsScene c.world-2.view_is c.world-2.invariant.1)
           c.in_ok-outcome.ensures
-          c.letters.ensures
+          c.letters-letters.ensures
           (sym (parts_same g.Y.Part.NodePart.state g.Y.Part.NodePart.rest g.Y.Part.NodePart.plain c.end.result.items) ∙ ap (map (λ (m : Member). m.part)) c.end.ensures),
       subst (λ o. GivesBack o (g.Y.Yard.returned c.give_back.new.yard) parts) c.parts_of.ensures.returned c.in_ok-give_back.ensures,
     )
