@@ -55,12 +55,12 @@ pub(crate) fn answer<L: Link, S: Spawner, Y: Yard>(
 ) -> Result<Told, Failure>
     requires { IsInRange command.now }
     ensures answered { Answered command.now text.now (record {
-        yard = change (Y.returned yard.old) (Y.returned yard.new);
-        net = change (L.traffic net.old) (L.traffic net.new);
-        net_faults = change (L.faults net.old) (L.faults net.new);
-        kids = change (S.family kids.old) (S.family kids.new);
-        kid_faults = change (S.faults kids.old) (S.faults kids.new);
-      }) result }
+      yard = change (Y.returned yard.old) (Y.returned yard.new);
+      net = change (L.traffic net.old) (L.traffic net.new);
+      net_faults = change (L.faults net.old) (L.faults net.new);
+      kids = change (S.family kids.old) (S.family kids.new);
+      kid_faults = change (S.faults kids.old) (S.faults kids.new);
+    }) result }
     ensures yard { uses_yard command.now ≡ false → yard.new ≡ yard.old }
     ensures net { uses_net command.now ≡ false → net.new ≡ net.old }
     ensures kids { uses_kids command.now ≡ false → kids.new ≡ kids.old }

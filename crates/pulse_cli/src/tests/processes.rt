@@ -16,8 +16,7 @@ const LEG: &[u8] =
 const BACK: &[u8] =
     b"\x50\x4c\x01\x02\0\0\0\0\0\0\0\0\0\0\0\0\x3d\0\x01\0\0\0\0\0\0\0\0\0\x10\0\x1e\0\0\0\0\0\0\0\x03\0\0\0\0\0\0\0";
 
-const STOP: &[u8] =
-    b"\x50\x4c\x01\x03\0\0\0\0\0\0\0\0\0\0\0\0\0\0\0\0\0\0\0\0\0\0\0\0\0\0";
+const STOP: &[u8] = b"\x50\x4c\x01\x03\0\0\0\0\0\0\0\0\0\0\0\0\0\0\0\0\0\0\0\0\0\0\0\0\0\0";
 
 // A process: its words, what comes in with gaps for empty frames, which calls of link and spawner fail, its status, what out and
 // err take, how many frames it sends and to which port the last goes, and the port that it binds.
@@ -120,7 +119,11 @@ fn drills(rt: HostRuntime) -> Result<(), Fail> {
     let mut out = MemSink::make(rt.alloc(), 1000, 100, Numbers::new(rt.alloc()))?;
     let mut err = MemSink::make(rt.alloc(), 100, 100, Numbers::new(rt.alloc()))?;
     let mut net = MemLink::make(rt.alloc(), Items::new(rt.alloc()), Numbers::new(rt.alloc()));
-    let mut kids = MemSpawner::make(rt.alloc(), Numbers::new(rt.alloc()), Numbers::new(rt.alloc()));
+    let mut kids = MemSpawner::make(
+        rt.alloc(),
+        Numbers::new(rt.alloc()),
+        Numbers::new(rt.alloc()),
+    );
     let mut yard = MemYard::new(rt.alloc());
     let status = pulse(
         rt.alloc(),
@@ -133,6 +136,9 @@ fn drills(rt: HostRuntime) -> Result<(), Fail> {
         &mut yard,
     );
     assert_eq!(rt; status, Status::Ok);
-    assert_eq!(rt; out.taken(), b"drill list 1 0\niterations 16\nletters 477\nanswers 16 0 0 0\nsha256 dab465bec027783b7de64b5ee46aba6daaeb9ac0930e444c8a586b1aac8d4b7b\n".as_slice());
+    assert_eq!(rt;
+        out.taken(),
+        b"drill list 1 0\niterations 16\nletters 477\nanswers 16 0 0 0\nsha256 dab465bec027783b7de64b5ee46aba6daaeb9ac0930e444c8a586b1aac8d4b7b\n".as_slice()
+    );
     Ok(())
 }
