@@ -24,8 +24,8 @@ client_text-requires g c =
     let runnable = subst (λ (p : Program). IsRunnable (record { checked = p; plan = s.plan })) (sym c.in_ok-built.ensures) c.in_ok-scenario.ensures.runnable in
     record {
       differ =
-        subst (IsDistinct nat_eq) (sym (c.ask_bound-served.ensures.requests ∙ ap numbers c.in_ok-client.ensures))
-        (first_differ (record { checked = built.checked; plan = s.plan }) built.images built.compiled runnable 0);
+          subst (IsDistinct nat_eq) (sym (c.ask_bound-served.ensures.requests ∙ ap numbers c.in_ok-client.ensures))
+          (first_differ (record { checked = built.checked; plan = s.plan }) built.images built.compiled runnable 0);
     }
 
 pub returns-in_err-scenario-clause-answer : goal.returns-in_err-scenario-clause-answer
@@ -54,7 +54,7 @@ returns-in_err-finished-clause-refused g c =
 pub returns-in_err-stop_all-clause-link : goal.returns-in_err-stop_all-clause-link
 returns-in_err-stop_all-clause-link g c =
     λ e. rose_after (g.L.Link.faults c.args.net.now) (g.L.Link.faults c.ask_bound-served.new.net) (g.L.Link.faults c.stop_all.new.net)
-      (c.ask_bound-served.ensures.kept (λ q. no_end c.in_ok-finished.finished (sym q ∙ c.in_ok-finished.ensures.ends))) c.in_err-stop_all.ensures.cause.failed
+    (c.ask_bound-served.ensures.kept (λ q. no_end c.in_ok-finished.finished (sym q ∙ c.in_ok-finished.ensures.ends))) c.in_err-stop_all.ensures.cause.failed
 
 pub returns-in_err-text-clause-answer : goal.returns-in_err-text-clause-answer
 returns-in_err-text-clause-answer g c =
@@ -68,14 +68,13 @@ pub returns-clause-answer : goal.returns-clause-answer
 returns-clause-answer g c =
     let s = c.in_ok-scenario.scenario in
     let built = c.in_ok-built.built in
-    let end = c.in_ok-finished.finished in
-    (
+    let end = c.in_ok-finished.finished in (
       s,
       c.in_ok-scenario.ensures.scenario,
       clustered s c.args.text.now c.args.turns (g.L.Link.traffic c.args.net.now) (g.L.Link.traffic c.ask_bound-served.new.net) (g.L.Link.traffic c.stop_all.new.net)
-        (g.S.Spawner.family c.args.kids.now) (g.S.Spawner.family c.start_all.new.kids) (g.S.Spawner.family c.wait_all.new.kids) (record { text = c.in_ok-text.text; finished = end })
-        built.images c.in_ok-client.client c.ask_bound-served.new.client c.in_ok-started.started.items
-        (search rules) (subst (λ (p : Program). CompilesAll p built.images) c.in_ok-built.ensures built.compiled) c.in_ok-client.ensures
-        (c.ask_bound-served.ensures.serves end c.in_ok-finished.ensures.ends) c.in_ok-stop_all.ensures.sent c.in_ok-started.ensures.all c.in_ok-started.ensures.started c.in_ok-wait_all.ensures.waited
-        c.in_ok-text.ensures,
+          (g.S.Spawner.family c.args.kids.now) (g.S.Spawner.family c.start_all.new.kids) (g.S.Spawner.family c.wait_all.new.kids) (record { text = c.in_ok-text.text; finished = end })
+          built.images c.in_ok-client.client c.ask_bound-served.new.client c.in_ok-started.started.items
+          (search rules) (subst (λ (p : Program). CompilesAll p built.images) c.in_ok-built.ensures built.compiled) c.in_ok-client.ensures
+          (c.ask_bound-served.ensures.serves end c.in_ok-finished.ensures.ends) c.in_ok-stop_all.ensures.sent c.in_ok-started.ensures.all c.in_ok-started.ensures.started c.in_ok-wait_all.ensures.waited
+          c.in_ok-text.ensures,
     )
