@@ -2,4 +2,4 @@ pub mod Endings
 pub mod ImageRefusals
 pub mod Iterators
 pub mod Outputs
-pub mod Processes
+pub mod Faults
