@@ -60,11 +60,7 @@ fn put_region<N: NodePart>(
 }
 
 // The lines of those regions of the plan that the node has, and the last line.
-fn node_text<N: NodePart>(
-    alloc: Global,
-    regions: &[PlanRegion],
-    part: &N,
-) -> Result<Bytes, Memory>
+fn node_text<N: NodePart>(alloc: Global, regions: &[PlanRegion], part: &N) -> Result<Bytes, Memory>
     requires few { length regions.now ≤ 64 }
     requires filled { All (λ r. length r.bytes ≡ (r.span).len) regions.now }
     requires spans { HaveSpans (N.state part.now) regions.now }

@@ -55,14 +55,17 @@ returns-clause-answer g c =
     let plain = subst (λ x. BoundTo (port + 1 + c.args.node) old new (λ rs ss. Serves (node_loop x port) c.args.turns (end_of end) (g.Y.Part.NodePart.state c.in_ok-part.part) rs now ss)) c.in_ok-part.ensures.plain (c.serve-served.ensures.serves end c.in_ok-finished.ensures.ends) in (
       s,
       c.in_ok-scenario.ensures.scenario,
-      (now, record {
-        there = omega arith;
-        images = built.images;
-        compiled = subst (λ (p : Program). CompilesAll p built.images) c.in_ok-built.ensures built.compiled;
-        serves = subst (λ (q : PartState). BoundTo (port + 1 + c.args.node) old new (λ rs ss. Serves (node_loop true port) c.args.turns (end_of end) q rs now ss)) first plain;
-        text = c.in_ok-text.ensures ∙ ap (λ r. lines_here now 0 r ++ codes "end\n") c.as_slice.ensures ∙ ap (λ l. l ++ codes "end\n") (lines_are t runnable built.images c.args.node now same);
-      },
-      subst (λ o. GivesBack o (g.Y.Yard.returned c.give_back.new.self) (now ∷ [])) c.part_of.ensures.returned c.in_ok-give_back.ensures.ok),
+      (
+        now,
+        record {
+          there = omega arith;
+          images = built.images;
+          compiled = subst (λ (p : Program). CompilesAll p built.images) c.in_ok-built.ensures built.compiled;
+          serves = subst (λ (q : PartState). BoundTo (port + 1 + c.args.node) old new (λ rs ss. Serves (node_loop true port) c.args.turns (end_of end) q rs now ss)) first plain;
+          text = c.in_ok-text.ensures ∙ ap (λ r. lines_here now 0 r ++ codes "end\n") c.as_slice.ensures ∙ ap (λ l. l ++ codes "end\n") (lines_are t runnable built.images c.args.node now same);
+        },
+        subst (λ o. GivesBack o (g.Y.Yard.returned c.give_back.new.self) (now ∷ [])) c.part_of.ensures.returned c.in_ok-give_back.ensures.ok,
+      ),
     )
 
 pub returns-clause-kept : goal.returns-clause-kept
