@@ -1,19 +1,26 @@
 -- From the steps of a command's run to what it came to.
-use Rattle.std.proofs.Common.{◌≡◌, ℕ, Bool, true, false, List, [], Option, Some, None, Result, Ok, Err, refl, sym, subst}
+use Rattle.std.proofs.Common.{◌≡◌, ℕ, Bool, true, false, List, [], Option, Some, None, Result, Ok, Err, inr, refl, sym, subst}
 use Rattle.pulse_base.specs.Outside.{Appends, HasCause}
+use Rattle.pulse_base.specs.Link.{Traffic}
+use Rattle.pulse_base.specs.Spawner.{Family}
 use Rattle.pulse_base.specs.declared.source.Failed.{Failed}
+use Rattle.node_core.specs.Part.{PartState}
 use Rattle.pulse_process.specs.declared.told.Told.{Told}
 use Rattle.pulse_process.specs.declared.fault.ProcessFault.{ProcessFault}
 use Rattle.pulse_words.specs.declared.command.Command.{Command}
+use Rattle.pulse_words.specs.Words.{IsCommand}
 use Rattle.pulse_cli.specs.Answers.{Answers, AnswersAs, Whole}
-use Rattle.pulse_cli.specs.Ending.{OfInput, seen, WritesWhole, FailsToWrite}
-use Rattle.pulse_cli.specs.Sides.{Sides, HasRisen}
+use Rattle.pulse_cli.specs.Ending.{End, OfInput, Outputs, Comes, seen, WritesWhole, FailsToWrite}
+use Rattle.pulse_cli.specs.Sides.{Sides, HasRisen, change}
 use Rattle.pulse_cli.specs.Steps.{Answered, Gives, IsWhole, Serves}
-use Rattle.pulse_cli.specs.Uses.{uses_kids, uses_net}
+use Rattle.pulse_cli.specs.Uses.{Names, reads_input, uses_kids, uses_net}
 use Rattle.pulse_cli.specs.declared.failure.Failure.{Failure}
 use Rattle.pulse_cli.specs.declared.failure.Failure.TheVariants as f
 use Rattle.pulse_cli.specs.declared.failure.Refusal.{Refusal}
 use Rattle.pulse_cli.specs.declared.failure.Refusal.TheVariants as r
+
+abbrev pub sides : (a b : Option (List PartState)) (c d : Option Traffic) (e f : ℕ) (g h : Option Family) (i j : ℕ) → Sides
+sides a b c d e f g h i j = record { yard = change a b; net = change c d; net_faults = change e f; kids = change g h; kid_faults = change i j }
 
 -- what holds of the text that a command took holds of its input
 pub of_input : (reads : Bool) (old now : Option (List ℕ)) (text : List ℕ) (P : List ℕ → Type 0) → OfInput reads old now (λ t. text ≡ t) → P text → OfInput reads old now P
@@ -67,3 +74,33 @@ process_answers command text s P (Err f.Usage) to link child h = absurd h
 process_answers command text s P (Err f.Read) to link child h = absurd h
 process_answers command text s P (Err f.Write) to link child h = absurd h
 process_answers command text s P (Err f.Turns) to link child h = absurd h
+
+-- ---- the ends of a run
+
+pub outputs : (words : List (List ℕ)) (command : Command) (old now : Option (List ℕ)) (s : Sides) (text shown : List ℕ) (told : Told) (finished : Bool) (Writes : List ℕ → Type 0)
+    → IsCommand words command → OfInput (reads_input command) old now (λ t. text ≡ t) → shown ≡ text → Answers command shown s (Ok told)
+    → told.finished ≡ finished → Writes told.text → Outputs words old now s finished Writes
+outputs words command old now s text shown told finished Writes is input same h f w =
+    (command, told, is, of_input (reads_input command) old now text (λ t. Answers command t s (Ok told)) input (subst (λ (t : List ℕ). Answers command t s (Ok told)) same h), f, w)
+
+-- a failure of what a command tells, before anything was written
+pub comes_failed : (words : List (List ℕ)) (command : Command) (input read out : End) (s : Sides) (text shown : List ℕ) (failure : Failure)
+    → IsCommand words command → OfInput (reads_input command) input.told read.told (λ t. text ≡ t) → shown ≡ text → Answered command shown s (Err failure)
+    → Comes words input read out out s (Err failure)
+comes_failed words command input read out s text shown f.Memory is took same h = refl
+comes_failed words command input read out s text shown (f.Refused refusal) is took same h =
+    (command, is, inr (of_input (reads_input command) input.told read.told text (λ t. Answers command t s (Err refusal)) took (subst (λ (t : List ℕ). Answers command t s (Err refusal)) same h)), refl)
+comes_failed words command input read out s text shown f.Link is took same h = (record { command = command; named = is; is = h.0 }, h.1, refl)
+comes_failed words command input read out s text shown f.Child is took same h = (record { command = command; named = is; is = h.0 }, h.1, refl)
+comes_failed words command input read out s text shown f.Usage is took same h = absurd h
+comes_failed words command input read out s text shown f.Read is took same h = absurd h
+comes_failed words command input read out s text shown f.Write is took same h = absurd h
+comes_failed words command input read out s text shown f.Turns is took same h = absurd h
+
+-- what is so of a command that does not use an end is so where the words name none that does
+pub unused : (of : Command → Bool) (words : List (List ℕ)) (command : Command) (P : Type 0) → IsCommand words command → (of command ≡ false → P) → ¬ Names of words → P
+unused of words command P is h none = by_bool (of command) (λ t. absurd (none (record { command = command; named = is; is = t }))) h
+  where
+    by_bool : (b : Bool) → (b ≡ true → P) → (b ≡ false → P) → P
+    by_bool true a b = a refl
+    by_bool false a b = b refl

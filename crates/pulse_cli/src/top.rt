@@ -85,7 +85,10 @@ fn run<R: Source, W: Sink, L: Link, S: Spawner, Y: Yard>(
 {
     let command = command_of(alloc, words)?;
     let text = read_input(alloc, &command, input)?;
-    let told = answer(alloc, &command, text.as_slice(), net, kids, yard)?;
+    let told = match answer(alloc, &command, text.as_slice(), net, kids, yard) {
+        Ok(told) => told,
+        Err(failure) => return Err(failure),
+    };
     match write_all(out, told.text.as_slice()) {
         Ok(()) => {}
         Err(_) => return Err(Failure::Write),
