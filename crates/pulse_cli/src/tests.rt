@@ -1,7 +1,6 @@
 // Walks over the top call, and every way in which it fails.
 
 mod answers;
-mod processes;
 
 ghost use Rattle.std.specs.Prelude.{◌≤◌};
 
