@@ -1,26 +1,20 @@
 -- From the steps of a command's run to what it came to.
-use Rattle.std.proofs.Common.{◌≡◌, ℕ, Bool, true, false, List, [], Option, Some, None, Result, Ok, Err, inr, refl, sym, subst}
+use Rattle.std.proofs.Common.{◌≡◌, ℕ, Bool, true, false, List, Option, Some, None, Result, Ok, Err, inr, refl, sym, subst}
 use Rattle.pulse_base.specs.Outside.{Appends, HasCause}
-use Rattle.pulse_base.specs.Link.{Traffic}
-use Rattle.pulse_base.specs.Spawner.{Family}
 use Rattle.pulse_base.specs.declared.source.Failed.{Failed}
-use Rattle.node_core.specs.Part.{PartState}
 use Rattle.pulse_process.specs.declared.told.Told.{Told}
 use Rattle.pulse_process.specs.declared.fault.ProcessFault.{ProcessFault}
 use Rattle.pulse_words.specs.declared.command.Command.{Command}
 use Rattle.pulse_words.specs.Words.{IsCommand}
 use Rattle.pulse_cli.specs.Answers.{Answers, AnswersAs, Whole}
 use Rattle.pulse_cli.specs.Ending.{End, OfInput, Outputs, Comes, seen, WritesWhole, FailsToWrite}
-use Rattle.pulse_cli.specs.Sides.{Sides, HasRisen, change}
+use Rattle.pulse_cli.specs.Sides.{Sides, HasRisen}
 use Rattle.pulse_cli.specs.Steps.{Answered, Gives, IsWhole, Serves}
 use Rattle.pulse_cli.specs.Uses.{Names, reads_input, uses_kids, uses_net}
 use Rattle.pulse_cli.specs.declared.failure.Failure.{Failure}
 use Rattle.pulse_cli.specs.declared.failure.Failure.TheVariants as f
 use Rattle.pulse_cli.specs.declared.failure.Refusal.{Refusal}
 use Rattle.pulse_cli.specs.declared.failure.Refusal.TheVariants as r
-
-abbrev pub sides : (a b : Option (List PartState)) (c d : Option Traffic) (e f : ℕ) (g h : Option Family) (i j : ℕ) → Sides
-sides a b c d e f g h i j = record { yard = change a b; net = change c d; net_faults = change e f; kids = change g h; kid_faults = change i j }
 
 -- what holds of the text that a command took holds of its input
 pub of_input : (reads : Bool) (old now : Option (List ℕ)) (text : List ℕ) (P : List ℕ → Type 0) → OfInput reads old now (λ t. text ≡ t) → P text → OfInput reads old now P

@@ -20,6 +20,9 @@ pub record Sides : Type 0 where
   pub kids : Change (Option Family)
   pub kid_faults : Change ℕ
 
+abbrev pub sides : (a b : Option (List PartState)) (c d : Option Traffic) (e f : ℕ) (g h : Option Family) (i j : ℕ) → Sides
+sides a b c d e f g h i j = record { yard = change a b; net = change c d; net_faults = change e f; kids = change g h; kid_faults = change i j }
+
 -- nothing of them is told to have changed
 pub record AreKept (s : Sides) : Type 0 where
   pub yard : (s.yard).after ≡ (s.yard).before

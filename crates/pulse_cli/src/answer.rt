@@ -1,8 +1,8 @@
 // Which command the words are, and what it tells of its input.
 
-ghost use Rattle.std.specs.Prelude.{◌≡◌, false, Err, map, IfOk, IfErr};
+ghost use Rattle.std.specs.Prelude.{◌≡◌, ◌≢◌, false, Err, map, IfOk, IfErr};
 ghost use Rattle.std.specs.String.{string_bytes};
-ghost use Rattle.pulse_cli.specs.Sides.{change};
+ghost use Rattle.pulse_cli.specs.Sides.{sides};
 ghost use Rattle.pulse_cli.specs.Steps.{Answered, ComesEarly, IsInRange, IsWhole};
 ghost use Rattle.pulse_cli.specs.Uses.{uses_kids, uses_net, uses_yard};
 ghost use Rattle.pulse_words.specs.Words.{IsCommand, IsSomeCommand};
@@ -54,13 +54,10 @@ pub(crate) fn answer<L: Link, S: Spawner, Y: Yard>(
     yard: &mut Y,
 ) -> Result<Told, Failure>
     requires { IsInRange command.now }
-    ensures answered { Answered command.now text.now (record {
-      yard = change (Y.returned yard.old) (Y.returned yard.new);
-      net = change (L.traffic net.old) (L.traffic net.new);
-      net_faults = change (L.faults net.old) (L.faults net.new);
-      kids = change (S.family kids.old) (S.family kids.new);
-      kid_faults = change (S.faults kids.old) (S.faults kids.new);
-    }) result }
+    ensures answered { Answered command.now text.now
+        (sides (Y.returned yard.old) (Y.returned yard.new) (L.traffic net.old) (L.traffic net.new) (L.faults net.old) (L.faults net.new)
+        (S.family kids.old) (S.family kids.new) (S.faults kids.old) (S.faults kids.new)) result }
+    ensures counts { result ≢ Err Failure.Link → result ≢ Err Failure.Child → result ≢ Err Failure.Memory → (L.faults net.new ≡ L.faults net.old) × (S.faults kids.new ≡ S.faults kids.old) }
     ensures yard { uses_yard command.now ≡ false → yard.new ≡ yard.old }
     ensures net { uses_net command.now ≡ false → net.new ≡ net.old }
     ensures kids { uses_kids command.now ≡ false → kids.new ≡ kids.old }

@@ -1,6 +1,6 @@
 // The commands that are processes of a document's scenario.
 
-ghost use Rattle.std.specs.Prelude.{◌≡◌, Err, IfErr};
+ghost use Rattle.std.specs.Prelude.{◌≡◌, ◌≢◌, Err, IfErr};
 ghost use Rattle.pulse_base.specs.Outside.{Rose};
 ghost use Rattle.pulse_process.specs.Answer.{AskAnswer, NodeAnswer, SwitchAnswer};
 ghost use Rattle.pulse_cluster.specs.Answer.{ClusterAnswer};
@@ -38,6 +38,7 @@ pub(crate) fn node_process<L: Link, Y: Yard>(
 ) -> Result<Told, Failure>
     ensures serves { Serves (NodeAnswer text.now node turns (L.traffic net.old) (L.traffic net.new) (Y.returned yard.old) (Y.returned yard.new)) result }
     ensures link { result ≡ Err Failure.Link → Rose (L.faults net.old) (L.faults net.new) }
+    ensures kept { result ≢ Err Failure.Link → result ≢ Err Failure.Memory → L.faults net.new ≡ L.faults net.old }
     ensures early { IfErr result (λ failure. ComesEarly failure → (net.new ≡ net.old) × (yard.new ≡ yard.old)) }
 {
     match run_node(alloc, text, node, turns, net, yard) {
@@ -55,6 +56,7 @@ pub(crate) fn switch_process<L: Link>(
 ) -> Result<Told, Failure>
     ensures serves { Serves (SwitchAnswer text.now turns (L.traffic net.old) (L.traffic net.new)) result }
     ensures link { result ≡ Err Failure.Link → Rose (L.faults net.old) (L.faults net.new) }
+    ensures kept { result ≢ Err Failure.Link → result ≢ Err Failure.Memory → L.faults net.new ≡ L.faults net.old }
     ensures early { IfErr result (λ failure. ComesEarly failure → net.new ≡ net.old) }
 {
     match run_switch(alloc, text, turns, net) {
@@ -73,6 +75,7 @@ pub(crate) fn ask_process<L: Link>(
 ) -> Result<Told, Failure>
     ensures serves { Serves (AskAnswer text.now client turns (L.traffic net.old) (L.traffic net.new)) result }
     ensures link { result ≡ Err Failure.Link → Rose (L.faults net.old) (L.faults net.new) }
+    ensures kept { result ≢ Err Failure.Link → result ≢ Err Failure.Memory → L.faults net.new ≡ L.faults net.old }
     ensures early { IfErr result (λ failure. ComesEarly failure → net.new ≡ net.old) }
 {
     match run_ask(alloc, text, client, turns, net) {
@@ -92,6 +95,8 @@ pub(crate) fn cluster_process<L: Link, S: Spawner>(
     ensures serves { Serves (ClusterAnswer text.now turns (L.traffic net.old) (L.traffic net.new) (S.family kids.old) (S.family kids.new)) result }
     ensures link { result ≡ Err Failure.Link → Rose (L.faults net.old) (L.faults net.new) }
     ensures child { result ≡ Err Failure.Child → Rose (S.faults kids.old) (S.faults kids.new) }
+    ensures link_kept { result ≢ Err Failure.Link → L.faults net.new ≡ L.faults net.old }
+    ensures children_kept { result ≢ Err Failure.Child → S.faults kids.new ≡ S.faults kids.old }
     ensures early { IfErr result (λ failure. ComesEarly failure → (net.new ≡ net.old) × (kids.new ≡ kids.old)) }
 {
     match run_cluster(alloc, text, turns, net, kids) {

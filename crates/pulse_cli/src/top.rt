@@ -3,7 +3,7 @@
 ghost use Rattle.std.specs.Prelude.{◌≡◌, ◌≢◌, Err, IfErr, OnErr, map};
 ghost use Rattle.std.specs.String.{string_bytes};
 ghost use Rattle.pulse_cli.specs.Ending.{seen, Comes, Ends, IsEarly};
-ghost use Rattle.pulse_cli.specs.Sides.{change};
+ghost use Rattle.pulse_cli.specs.Sides.{sides};
 ghost use Rattle.pulse_cli.specs.Steps.{ComesEarly};
 ghost use Rattle.pulse_cli.specs.Uses.{Names, reads_input, uses_kids, uses_net, uses_yard};
 ghost use Rattle.pulse_words.specs.Words.{IsSomeCommand};
@@ -34,13 +34,9 @@ pub fn pulse<R: Source, W: Sink, E: Sink, L: Link, S: Spawner, Y: Yard>(
         (seen (R.left input.old) (R.faults input.old)) (seen (R.left input.new) (R.faults input.new))
         (seen (W.taken out.old) (W.faults out.old)) (seen (W.taken out.new) (W.faults out.new))
         (seen (E.taken err.old) (E.faults err.old)) (seen (E.taken err.new) (E.faults err.new))
-        (record {
-          yard = change (Y.returned yard.old) (Y.returned yard.new);
-          net = change (L.traffic net.old) (L.traffic net.new);
-          net_faults = change (L.faults net.old) (L.faults net.new);
-          kids = change (S.family kids.old) (S.family kids.new);
-          kid_faults = change (S.faults kids.old) (S.faults kids.new);
-        }) result }
+        (sides (Y.returned yard.old) (Y.returned yard.new) (L.traffic net.old) (L.traffic net.new) (L.faults net.old) (L.faults net.new)
+        (S.family kids.old) (S.family kids.new) (S.faults kids.old) (S.faults kids.new)) result }
+    ensures counts { result ≢ Status.LinkFault → result ≢ Status.ChildFault → result ≢ Status.Memory → result ≢ Status.WriteFault → (L.faults net.new ≡ L.faults net.old) × (S.faults kids.new ≡ S.faults kids.old) }
     ensures nothing_written { result ≢ Status.Ok → result ≢ Status.TurnsUsed → result ≢ Status.WriteFault → out.new ≡ out.old }
     ensures usage { ¬ IsSomeCommand (map string_bytes words.now) → out.new ≡ out.old }
     ensures input { ¬ Names reads_input (map string_bytes words.now) → input.new ≡ input.old }
@@ -68,13 +64,9 @@ fn run<R: Source, W: Sink, L: Link, S: Spawner, Y: Yard>(
     ensures comes { Comes (map string_bytes words.now)
         (seen (R.left input.old) (R.faults input.old)) (seen (R.left input.new) (R.faults input.new))
         (seen (W.taken out.old) (W.faults out.old)) (seen (W.taken out.new) (W.faults out.new))
-        (record {
-          yard = change (Y.returned yard.old) (Y.returned yard.new);
-          net = change (L.traffic net.old) (L.traffic net.new);
-          net_faults = change (L.faults net.old) (L.faults net.new);
-          kids = change (S.family kids.old) (S.family kids.new);
-          kid_faults = change (S.faults kids.old) (S.faults kids.new);
-        }) result }
+        (sides (Y.returned yard.old) (Y.returned yard.new) (L.traffic net.old) (L.traffic net.new) (L.faults net.old) (L.faults net.new)
+        (S.family kids.old) (S.family kids.new) (S.faults kids.old) (S.faults kids.new)) result }
+    ensures counts { result ≢ Err Failure.Link → result ≢ Err Failure.Child → result ≢ Err Failure.Memory → (L.faults net.new ≡ L.faults net.old) × (S.faults kids.new ≡ S.faults kids.old) }
     ensures nothing_written { OnErr result (result ≢ Err Failure.Turns → result ≢ Err Failure.Write → out.new ≡ out.old) }
     ensures usage { ¬ IsSomeCommand (map string_bytes words.now) → out.new ≡ out.old }
     ensures input { ¬ Names reads_input (map string_bytes words.now) → input.new ≡ input.old }

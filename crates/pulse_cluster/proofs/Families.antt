@@ -1,5 +1,5 @@
 -- How a family grows, one call after the other.
-use Rattle.std.proofs.Common.{◌≡◌, ℕ, zero, suc, ◌+◌, ◌<◌, List, [], ◌∷◌, ◌++◌, length, slice_get, Option, Some, None, Result, Ok, refl, sym, ap, subst, ◌∙◌, arith, append_assoc, add-zero, zero-add}
+use Rattle.std.proofs.Common.{◌≡◌, ℕ, zero, suc, ◌+◌, ◌<◌, List, [], ◌∷◌, ◌++◌, length, slice_get, Option, Some, None, Ok, refl, sym, ap, subst, ◌∙◌, arith, append_assoc, add-zero, zero-add}
 use Rattle.std.proofs.lemmas.List.{length_push}
 use Rattle.pulse_base.specs.declared.source.Failed.{Failed}
 use Rattle.pulse_base.specs.Spawner.{Family, Start, Starts, Waits}

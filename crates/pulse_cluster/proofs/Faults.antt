@@ -1,9 +1,8 @@
 -- The answers of a cluster that ended with a fault.
-use Rattle.std.proofs.Common.{◌≡◌, ◌≢◌, ℕ, List, Option, Result, Ok, Err, IfErr, ◌⊎◌, inl, inr, refl, sym, subst, ◌∙◌}
+use Rattle.std.proofs.Common.{◌≡◌, ◌≢◌, ℕ, List, Option, Result, Ok, Err, IfErr, ◌⊎◌, inl, inr, refl, sym, ap, subst, ◌∙◌}
 use Rattle.std.specs.Prelude.{IsErrAnd}
 use Rattle.pulse_base.specs.Link.{Traffic}
 use Rattle.pulse_base.specs.Spawner.{Family}
-use Rattle.pulse_process.specs.declared.fault.FormLimit.{FormLimit}
 use Rattle.pulse_process.specs.declared.fault.ProcessFault.{ProcessFault}
 use Rattle.pulse_process.specs.declared.fault.ProcessFault.TheVariants as fault
 use Rattle.pulse_process.specs.Answer.{Faults}
@@ -49,3 +48,18 @@ memory_outside n m k = k refl
 pub barred : {T : Type 0} (A : Type 0) (r : Result T ProcessFault) (e : ProcessFault) → IsErrAnd r (λ y. y ≡ e) → IsOutside e → IfErr r (λ f. f ≢ fault.Link → f ≢ fault.Child → f ≢ fault.Memory → A)
 barred A (Ok x) e is h = tt
 barred A (Err y) e is h = λ n m k. absurd (h (λ q. n (is ∙ q)) (λ q. m (is ∙ q)) (λ q. k (is ∙ q)))
+
+-- ---- a count that is kept where the fault is not this one
+
+abbrev fault_of : {T : Type 0} → ProcessFault → Result T ProcessFault → ProcessFault
+fault_of d (Ok x) = d
+fault_of d (Err e) = e
+
+pub kept_over : {T U : Type 0} (A : Type 0) (r : Result T ProcessFault) (s : Result U ProcessFault) (e d : ProcessFault) → IsErrAnd r (λ y. y ≡ e) → s ≡ Err e → (s ≢ Err d → A) → r ≢ Err d → A
+kept_over A (Ok x) s e d is same h = absurd (is)
+kept_over A (Err y) s e d is same h = λ n. h (λ q. n (ap Err (is ∙ ap (fault_of e) (sym same ∙ q))))
+
+-- a fault that is this one
+pub is_it : {T : Type 0} (A : Type 0) (r : Result T ProcessFault) (e d : ProcessFault) → IsErrAnd r (λ y. y ≡ e) → e ≡ d → r ≢ Err d → A
+is_it A (Ok x) e d is same = absurd (is)
+is_it A (Err y) e d is same = λ n. absurd (n (ap Err (is ∙ same)))

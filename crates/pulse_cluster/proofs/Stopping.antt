@@ -1,6 +1,6 @@
 -- The Stops that are sent, one port after the other.
-use Rattle.std.proofs.Common.{◌≡◌, ℕ, zero, suc, ◌+◌, List, [], ◌++◌, Option, sym, ap, subst, ◌∙◌, arith, add-zero, zero-add, add-one}
-use Rattle.pulse_base.specs.Link.{Sent, Traffic}
+use Rattle.std.proofs.Common.{◌≡◌, ℕ, zero, suc, ◌+◌, [], ◌++◌, Option, sym, ap, subst, ◌∙◌, arith, add-zero, zero-add, add-one}
+use Rattle.pulse_base.specs.Link.{Traffic}
 use Rattle.pulse_serve.specs.Frames.{Grew}
 use Rattle.pulse_serve.proofs.Traffics.{grew_more}
 use Rattle.pulse_cluster.specs.Cluster.{three_stops, node_stops}

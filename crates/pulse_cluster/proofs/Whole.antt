@@ -1,5 +1,5 @@
 -- A cluster from what its steps did.
-use Rattle.std.proofs.Common.{◌≡◌, ℕ, ◌+◌, List, [], ◌++◌, length, Option, refl, sym, ap, subst, ◌∙◌, add-zero}
+use Rattle.std.proofs.Common.{◌≡◌, ℕ, ◌+◌, List, [], ◌++◌, length, Option, refl, subst, add-zero}
 use Rattle.pulse_base.specs.Link.{Receipt, Sent, Traffic}
 use Rattle.pulse_base.specs.Spawner.{Family}
 use Rattle.code_image.specs.declared.image.Image.{Image}

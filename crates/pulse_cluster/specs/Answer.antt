@@ -1,6 +1,6 @@
 -- What is answered of a text by a cluster of its scenario. Want of memory may be answered at any time; faults of the link and of
 -- children have their causes beside this.
-use Rattle.std.specs.Prelude.{◌≡◌, ◌≢◌, ℕ, List, Option, Result, Ok, Err}
+use Rattle.std.specs.Prelude.{◌≢◌, ℕ, List, Option, Result, Ok, Err}
 use Rattle.pulse_base.specs.Link.{Traffic}
 use Rattle.pulse_base.specs.Spawner.{Family}
 use Rattle.pulse_process.specs.declared.told.Told.{Told}

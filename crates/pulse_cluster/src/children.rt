@@ -80,6 +80,7 @@ pub(crate) fn start_all<S: Spawner>(
 pub(crate) fn wait_all<S: Spawner>(kids: &mut S, started: Vec<Kid>) -> Result<(), ProcessFault>
     ensures waited { OnOk result (FamilyGrew (S.family kids.old) (S.family kids.new) [] started.items) }
     ensures child { result ≡ Err ProcessFault.Child → Rose (S.faults kids.old) (S.faults kids.new) }
+    ensures kept { result ≢ Err ProcessFault.Child → S.faults kids.new ≡ S.faults kids.old }
     ensures fault { IfErr result (λ f. f ≡ ProcessFault.Child) }
 {
     'kids: for kid in started {

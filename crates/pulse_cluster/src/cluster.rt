@@ -27,6 +27,8 @@ pub fn run_cluster<L: Link, S: Spawner>(
     ensures answer { ClusterAnswer text.now turns (L.traffic net.old) (L.traffic net.new) (S.family kids.old) (S.family kids.new) result }
     ensures link { result ≡ Err ProcessFault.Link → Rose (L.faults net.old) (L.faults net.new) }
     ensures child { result ≡ Err ProcessFault.Child → Rose (S.faults kids.old) (S.faults kids.new) }
+    ensures link_kept { result ≢ Err ProcessFault.Link → L.faults net.new ≡ L.faults net.old }
+    ensures children_kept { result ≢ Err ProcessFault.Child → S.faults kids.new ≡ S.faults kids.old }
     ensures refused { IfErr result (λ f. f ≢ ProcessFault.Link → f ≢ ProcessFault.Child → f ≢ ProcessFault.Memory → (net.new ≡ net.old) × (kids.new ≡ kids.old)) }
 {
     let scenario = read_scenario(alloc, text)?;

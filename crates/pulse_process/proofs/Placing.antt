@@ -1,16 +1,15 @@
 -- A node that has the regions of node n of a scenario has just those regions of the plan, each with its span.
-use Rattle.std.proofs.Common.{◌≡◌, ℕ, zero, suc, ◌+◌, ◌<◌, ◌≤◌, Bool, true, false, cond, List, [], ◌∷◌, ◌++◌, length, map, nat_eq, nat_lt, Option, Some, None, refl, sym, ap, subst, ◌∙◌, arith, eqb-true, if◌then◌else◌}
+use Rattle.std.proofs.Common.{◌≡◌, ℕ, zero, suc, ◌+◌, ◌<◌, ◌≤◌, true, false, cond, List, [], ◌∷◌, ◌++◌, length, nat_eq, nat_lt, Option, Some, None, refl, sym, ap, subst, ◌∙◌, arith, eqb-true, if◌then◌else◌}
 use Rattle.std.specs.Prelude.{slice_get, slice_index_or, is_some, position}
 use Rattle.std.specs.List.{position_or_len}
 use Rattle.std.proofs.lemmas.List.{length-map}
 use Rattle.std.proofs.lemmas.List.Sums.{fails_before_first}
 use Rattle.std.proofs.lemmas.List.Quantifiers.{position-Some}
 use Rattle.std.proofs.lemmas.Option.{slice_get_within}
-use Rattle.range_table.specs.declared.region.RegionSpan.{RegionSpan}
 use Rattle.range_table.specs.Memory as table
 use Rattle.report_text.specs.Report.{region_line}
 use Rattle.run_rules.specs.declared.node.NodeRegion.{NodeRegion}
-use Rattle.run_rules.specs.Node.{NodeState, region_at, spans_of}
+use Rattle.run_rules.specs.Node.{region_at}
 use Rattle.run_rules.proofs.Finds.{by_bool}
 use Rattle.run_views.specs.Setting.{owner_of}
 use Rattle.run_views.specs.Nodes.{bytes_numbered}
@@ -22,12 +21,11 @@ use Rattle.scenario_text.specs.declared.plan.PlanRegion.{PlanRegion}
 use Rattle.scenario_text.specs.declared.scenario.Scenario.{Scenario}
 use Rattle.scenario_text.specs.Accepted.{IsRunnable}
 use Rattle.scenario_run.specs.Setting.{setting_of}
-use Rattle.scenario_run.specs.Start.{first_node}
 use Rattle.scenario_run.proofs.Lists.{index_map}
 use Rattle.scenario_run.proofs.Shares.{share}
 use Rattle.scenario_parts.specs.Parts.{first_part}
 use Rattle.pulse_process.specs.Node.{region_lines}
-use Rattle.pulse_process.specs.inner.Held.{HasSpan, HaveSpans, SameRegions, lines_here}
+use Rattle.pulse_process.specs.inner.Held.{HaveSpans, SameRegions, lines_here}
 use Rattle.pulse_process.proofs.Holding.{numbered}
 
 abbrev at : List NodeRegion → ℕ → NodeRegion

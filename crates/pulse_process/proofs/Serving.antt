@@ -11,7 +11,7 @@ use Rattle.run_rules.specs.declared.node.Accepted.TheVariants as accepted
 use Rattle.run_rules.specs.Outcome.{Outcome, record_after}
 use Rattle.run_rules.specs.Node.{NodeState, find_live, spans_of, place_of, region_at, record_in, offset_of, spliced}
 use Rattle.run_rules.specs.Accepting.{after_answer, answer_to, accept}
-use Rattle.run_rules.specs.Turning.{turn, turn_of, stored, settled, fate_of}
+use Rattle.run_rules.specs.Turning.{turn_of, stored, fate_of}
 use Rattle.run_views.proofs.Shares.{no_region}
 use Rattle.run_views.proofs.Turned.{settled_regions}
 use Rattle.node_core.specs.declared.part.Turned.{Turned}
@@ -22,7 +22,7 @@ use Rattle.pulse_serve.specs.declared.frames.Came.TheVariants as came
 use Rattle.pulse_serve.specs.declared.served.Served.{Served}
 use Rattle.pulse_serve.specs.declared.served.Served.TheVariants as served
 use Rattle.pulse_serve.specs.Runs.{Runs, Serves, CutAt}
-use Rattle.pulse_serve.specs.NodeRun.{NodeTurn, NodeHears, NodeSteps, node_loop, after_item}
+use Rattle.pulse_serve.specs.NodeRun.{NodeTurn, NodeHears, node_loop, after_item}
 use Rattle.pulse_process.specs.inner.Held.{SameRegions}
 
 same_by : (p q : PartState) → q.node.regions ≡ p.node.regions → SameRegions p q

@@ -1,6 +1,6 @@
 -- What is answered of a text by a process of its scenario, which starts no children. Want of memory may be answered at any time; a fault of the link has its
 -- cause beside this.
-use Rattle.std.specs.Prelude.{◌≡◌, ◌≢◌, ℕ, ◌≤◌, List, [], ◌∷◌, Option, Result, Ok, Err}
+use Rattle.std.specs.Prelude.{◌≢◌, ℕ, ◌≤◌, List, [], ◌∷◌, Option, Result, Ok, Err}
 use Rattle.pulse_base.specs.Link.{Traffic}
 use Rattle.node_core.specs.Part.{PartState}
 use Rattle.scenario_text.specs.declared.fault.DocFault.TheVariants as doc

@@ -1,8 +1,5 @@
 -- What a user reads of a process that failed.
 use Rattle.std.specs.Prelude.{ℕ, List, codes}
-use Rattle.scenario_text.specs.Lines as document
-use Rattle.pulse_process.specs.declared.fault.ProcessFault.{ProcessFault}
-use Rattle.pulse_process.specs.declared.fault.ProcessFault.TheVariants as fault
 use Rattle.pulse_process.specs.declared.fault.FormLimit.{FormLimit}
 use Rattle.pulse_process.specs.declared.fault.FormLimit.TheVariants as limit
 

@@ -1,5 +1,5 @@
 -- What a process that is the switch leaves. It tells nothing.
-use Rattle.std.specs.Prelude.{◌≡◌, ℕ, List, [], Option}
+use Rattle.std.specs.Prelude.{◌≡◌, ℕ, [], Option}
 use Rattle.pulse_base.specs.Link.{Traffic}
 use Rattle.scenario_text.specs.declared.scenario.Scenario.{Scenario}
 use Rattle.scenario_parts.specs.Switch.{first_switch}

@@ -1,11 +1,12 @@
-use Rattle.std.proofs.Common.{ap, sym, subst, ◌∙◌, refl}
+use Rattle.std.proofs.Common.{ap, sym, subst, ◌∙◌}
 use Rattle.pulse_words.specs.declared.command.Command.{Command}
 use Rattle.pulse_words.specs.declared.command.Command.TheVariants as m
 use Rattle.pulse_process.specs.Answer.{NodeAnswer}
 use Rattle.pulse_cli.specs.Answers.{Answers, AnswersCompile, AnswersList, AnswersVerify, AnswersDrill}
 use Rattle.pulse_cli.specs.Uses.{uses_net}
 use Rattle.pulse_cli.specs.Steps.{Serves}
-use Rattle.pulse_cli.proofs.Outputs.{sides, process_answers, whole_answers}
+use Rattle.pulse_cli.specs.Sides.{sides}
+use Rattle.pulse_cli.proofs.Outputs.{process_answers, whole_answers}
 use Rattle.pulse_cli.proofs.answer.answer.Goals as goal
 
 pub returns-in-Compile-clause-answered : goal.returns-in-Compile-clause-answered

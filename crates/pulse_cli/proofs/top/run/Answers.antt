@@ -1,7 +1,8 @@
 use Rattle.std.proofs.Common.{refl, true, false}
 use Rattle.pulse_cli.specs.Ending.{seen, FailsToWrite, WritesWhole}
 use Rattle.pulse_cli.specs.Uses.{uses_kids, uses_net, uses_yard}
-use Rattle.pulse_cli.proofs.Outputs.{comes_failed, fails, outputs, sides, unused, writes}
+use Rattle.pulse_cli.specs.Sides.{sides}
+use Rattle.pulse_cli.proofs.Outputs.{comes_failed, fails, outputs, unused, writes}
 use Rattle.pulse_cli.proofs.top.run.Goals as goal
 
 pub returns-in-Err-clause-comes : goal.returns-in-Err-clause-comes

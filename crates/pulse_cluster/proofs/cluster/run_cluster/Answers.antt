@@ -1,4 +1,4 @@
-use Rattle.std.proofs.Common.{◌≡◌, nat_eq, Err, sym, ap, subst, ◌∙◌, rules}
+use Rattle.std.proofs.Common.{nat_eq, Err, refl, sym, ap, subst, ◌∙◌, rules}
 use Rattle.std.specs.List.{IsDistinct}
 use Rattle.iter_syntax.specs.declared.tree.Program.{Program}
 use Rattle.pulse_codegen.specs.Compiled.{CompilesAll}
@@ -8,7 +8,7 @@ use Rattle.pulse_process.specs.declared.fault.ProcessFault.TheVariants as fault
 use Rattle.pulse_process.proofs.Answering.{no_end, rose_after}
 use Rattle.pulse_process.proofs.Asking.{first_differ}
 use Rattle.pulse_cluster.specs.Answer.{ClusterAnswer}
-use Rattle.pulse_cluster.proofs.Faults.{IsOutside, refused, passed, not_started, not_asked, link_outside, child_outside, memory_outside, barred}
+use Rattle.pulse_cluster.proofs.Faults.{IsOutside, refused, passed, not_started, not_asked, link_outside, child_outside, memory_outside, barred, kept_over, is_it}
 use Rattle.pulse_cluster.proofs.Whole.{clustered}
 use Rattle.pulse_cluster.proofs.cluster.run_cluster.Goals as goal
 
@@ -63,6 +63,40 @@ returns-in_err-text-clause-answer g c =
 pub returns-in_err-text-clause-refused : goal.returns-in_err-text-clause-refused
 returns-in_err-text-clause-refused g c =
     barred _ c.from_residual-in_err-text.result fault.Memory c.from_residual-in_err-text.ensures.1 memory_outside
+
+-- ---- the counts of faults
+
+pub returns-in_err-started-clause-children_kept : goal.returns-in_err-started-clause-children_kept
+returns-in_err-started-clause-children_kept g c =
+    kept_over _ c.from_residual-in_err-started.result _ c.in_err-started.field-0.0 fault.Child c.from_residual-in_err-started.ensures.1 refl c.in_err-started.ensures.kept
+
+pub returns-in_err-finished-clause-link_kept : goal.returns-in_err-finished-clause-link_kept
+returns-in_err-finished-clause-link_kept g c =
+    kept_over _ c.from_residual-in_err-finished.result _ c.in_err-finished.field-0.0 fault.Link c.from_residual-in_err-finished.ensures.1 refl
+    (λ n. c.ask_bound-served.ensures.kept (λ q. n (c.in_err-finished.ensures.lost q)))
+
+pub returns-in_err-stop_all-clause-link_kept : goal.returns-in_err-stop_all-clause-link_kept
+returns-in_err-stop_all-clause-link_kept g c =
+    is_it _ c.from_residual-in_err-stop_all.result c.in_err-stop_all.field-0.0 fault.Link c.from_residual-in_err-stop_all.ensures.1 c.in_err-stop_all.ensures.fault
+
+pub returns-in_err-wait_all-clause-children_kept : goal.returns-in_err-wait_all-clause-children_kept
+returns-in_err-wait_all-clause-children_kept g c =
+    is_it _ c.from_residual-in_err-wait_all.result c.in_err-wait_all.field-0.0 fault.Child c.from_residual-in_err-wait_all.ensures.1 c.in_err-wait_all.ensures.fault
+
+pub returns-in_err-wait_all-clause-link_kept : goal.returns-in_err-wait_all-clause-link_kept
+returns-in_err-wait_all-clause-link_kept g c =
+    λ n. c.in_ok-stop_all.ensures.cause.kept
+    ∙ c.ask_bound-served.ensures.kept (λ q. no_end c.in_ok-finished.finished (sym q ∙ c.in_ok-finished.ensures.ends))
+
+pub returns-in_err-text-clause-link_kept : goal.returns-in_err-text-clause-link_kept
+returns-in_err-text-clause-link_kept g c =
+    λ n. c.in_ok-stop_all.ensures.cause.kept
+    ∙ c.ask_bound-served.ensures.kept (λ q. no_end c.in_ok-finished.finished (sym q ∙ c.in_ok-finished.ensures.ends))
+
+pub returns-clause-link_kept : goal.returns-clause-link_kept
+returns-clause-link_kept g c =
+    λ n. c.in_ok-stop_all.ensures.cause.kept
+    ∙ c.ask_bound-served.ensures.kept (λ q. no_end c.in_ok-finished.finished (sym q ∙ c.in_ok-finished.ensures.ends))
 
 pub returns-clause-answer : goal.returns-clause-answer
 returns-clause-answer g c =

@@ -1,4 +1,4 @@
-use Rattle.std.proofs.Common.{◌≡◌, ◌≤◌, ◌++◌, codes, length, refl, ap, ◌∙◌, arith}
+use Rattle.std.proofs.Common.{◌≤◌, ◌++◌, codes, length, refl, ap, ◌∙◌, arith}
 use Rattle.report_text.specs.Report.{answer_line}
 use Rattle.pulse_process.specs.Ask.{request_lines}
 use Rattle.pulse_process.proofs.Telling.{one_line, all_lines}

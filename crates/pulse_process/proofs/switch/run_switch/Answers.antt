@@ -1,10 +1,9 @@
-use Rattle.std.proofs.Common.{◌≡◌, ◌≤◌, Err, map, refl, sym, ap, subst, ◌∙◌}
+use Rattle.std.proofs.Common.{◌≤◌, Err, map, refl, sym, ap, subst, ◌∙◌}
 use Rattle.std.specs.Prelude.{All}
 use Rattle.std.proofs.lemmas.Result.{err_from_is_err_and}
 use Rattle.run_rules.specs.Switch.{SwitchState}
 use Rattle.switch_core.specs.Owners.{IsNode}
 use Rattle.scenario_text.specs.declared.plan.PlanRegion.{PlanRegion}
-use Rattle.scenario_parts.specs.Switch.{first_switch}
 use Rattle.scenario_parts.proofs.Lists.{low_nodes, nodes_are}
 use Rattle.pulse_serve.specs.Runs.{Serves}
 use Rattle.pulse_serve.specs.SwitchRun.{switch_loop}
