@@ -3,7 +3,7 @@
 use crate::run_cluster;
 use pulse_base::{Bytes, Memory, Numbers};
 use pulse_net::{Item, Items, MemLink, MemSpawner, Start};
-use pulse_process::ProcessFault;
+use pulse_process::{ProcessFault, Told};
 use std::alloc::{AllocError, Global};
 use std::test::Fail;
 
@@ -35,6 +35,11 @@ const ANSWER: &[u8] = b"request 0 done 3 780000000000000001000000000000000900000
 
 // The words of the children, each with a space before it.
 const LINES: &[u8] = b" node 0 5\n node 1 5\n node 2 5\n switch 5\n";
+
+// Where the ask goes, and then the Stops.
+const PORTS: &[u32] = &[
+    47000, 47001, 47001, 47001, 47002, 47002, 47002, 47003, 47003, 47003, 47000, 47000, 47000,
+];
 
 // One walk over the three nodes of a B-tree, one node of it each.
 fn document(alloc: Global) -> Result<String, AllocError> {
@@ -87,38 +92,54 @@ fn ports_of(alloc: Global, net: &MemLink) -> Result<Numbers, Memory> {
     Ok(ports)
 }
 
+// What a cluster of five turns left of its link and its children, and what it told.
+#[derive(Drop)]
+struct Ran {
+    told: Told,
+    net: MemLink,
+    kids: MemSpawner,
+}
+
+fn run(alloc: Global, text: &[u8]) -> Result<Ran, ProcessFault> {
+    let mut net = link(alloc, &[])?;
+    let mut kids = spawner(alloc, &[])?;
+    let told = run_cluster(alloc, text, 5, &mut net, &mut kids)?;
+    Ok(Ran { told, net, kids })
+}
+
+// Whether all frames after the first are Stops.
+fn ends_in_stops(net: &MemLink) -> bool {
+    net.sent()
+        .iter()
+        .skip(1)
+        .all(|sent| sent.bytes.as_slice() == STOP)
+}
+
 #[test]
-fn starts_asks_stops_and_waits(rt: HostRuntime) -> Result<(), Fail> {
+fn starts_and_waits(rt: HostRuntime) -> Result<(), Fail> {
     let text = document(rt.alloc())?;
-    let mut net = link(rt.alloc(), &[])?;
-    let mut kids = spawner(rt.alloc(), &[])?;
-    let told = run_cluster(rt.alloc(), text.as_bytes(), 5, &mut net, &mut kids)?;
-    assert!(rt; told.finished);
-    assert!(rt; told.text.as_slice() == ANSWER);
-    let lines = lines_of(rt.alloc(), &kids)?;
+    let ran = run(rt.alloc(), text.as_bytes())?;
+    let lines = lines_of(rt.alloc(), &ran.kids)?;
     assert!(rt; lines.as_slice() == LINES);
     assert!(rt;
-        kids.started()
+        ran.kids
+            .started()
             .iter()
             .all(|start| start.input.as_slice() == text.as_bytes())
     );
-    assert_eq!(rt; kids.waited(), [0, 1, 2, 3].as_slice());
-    let ports = ports_of(rt.alloc(), &net)?;
-    assert_eq!(rt;
-        ports.as_slice(),
-        [
-            47000, 47001, 47001, 47001, 47002, 47002, 47002, 47003, 47003, 47003, 47000, 47000,
-            47000
-        ]
-        .as_slice()
-    );
-    assert!(rt;
-        net.sent()
-            .iter()
-            .skip(1)
-            .all(|sent| sent.bytes.as_slice() == STOP)
-    );
-    assert_eq!(rt; net.bound(), [47065].as_slice());
+    assert!(rt; ran.kids.waited() == [0, 1, 2, 3].as_slice());
+    Ok(())
+}
+
+#[test]
+fn asks_and_stops(rt: HostRuntime) -> Result<(), Fail> {
+    let text = document(rt.alloc())?;
+    let ran = run(rt.alloc(), text.as_bytes())?;
+    assert!(rt; ran.told.finished && ran.told.text.as_slice() == ANSWER);
+    let ports = ports_of(rt.alloc(), &ran.net)?;
+    assert!(rt; ports.as_slice() == PORTS);
+    assert!(rt; ends_in_stops(&ran.net));
+    assert!(rt; ran.net.bound() == [47065].as_slice());
     Ok(())
 }
 
