@@ -9,8 +9,6 @@
 mod client;
 mod request;
 mod rules;
-#[cfg(test)]
-mod tests;
 
 pub use client::Client;
 pub use request::Request;

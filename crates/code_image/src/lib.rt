@@ -10,8 +10,6 @@ mod fault;
 mod header;
 mod image;
 mod lister;
-#[cfg(test)]
-mod tests;
 mod words;
 
 pub use decoding::decode;

@@ -8,8 +8,6 @@
 mod bad;
 mod law;
 mod rules;
-#[cfg(test)]
-mod tests;
 mod verifier;
 
 pub use bad::{Bad, BadKind, Sizes};

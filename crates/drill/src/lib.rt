@@ -8,7 +8,5 @@
 mod document;
 mod summary;
 mod tally;
-#[cfg(test)]
-mod tests;
 
 pub use document::drill;

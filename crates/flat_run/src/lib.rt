@@ -32,6 +32,3 @@ pub use state::{FlatRegion, FlatRegions, FlatRequest, FlatRequests, FlatState};
 pub use statements::{Ending, run_row};
 pub use value::{Setting, State, value_of};
 pub use walk::FlatWalk;
-
-#[cfg(test)]
-mod tests;

@@ -13,8 +13,6 @@
 mod document;
 mod fault;
 mod laws;
-#[cfg(test)]
-mod tests;
 
 pub use document::walk;
 pub use fault::WalkFault;

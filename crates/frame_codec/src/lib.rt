@@ -16,6 +16,3 @@ pub use bad_frame::BadFrame;
 pub use decoding::decode;
 pub use encoding::encode;
 pub use frame::{Back, Ending, Frame, Leg};
-
-#[cfg(test)]
-mod tests;

@@ -29,8 +29,6 @@ mod scope;
 mod sizes;
 mod sort;
 mod stmt;
-#[cfg(test)]
-mod tests;
 mod typing;
 mod value;
 

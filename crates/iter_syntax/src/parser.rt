@@ -57,6 +57,3 @@ fn offset(tokens: &[Token], at: usize, end: u32) -> u32
     let Place(place) = tokens[at].place;
     place
 }
-
-#[cfg(test)]
-mod tests;

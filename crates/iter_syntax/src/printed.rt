@@ -26,6 +26,3 @@ pub fn print(alloc: Global, program: &Program) -> Result<Bytes, Memory>
     put_program(&mut text, program)?;
     Ok(text)
 }
-
-#[cfg(test)]
-mod tests;

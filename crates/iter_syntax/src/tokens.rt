@@ -58,6 +58,3 @@ fn read_tokens(alloc: Global, text: &[u8]) -> Result<Listed<Token>, SyntaxFault>
     }
     Ok(found)
 }
-
-#[cfg(test)]
-mod tests;

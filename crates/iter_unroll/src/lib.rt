@@ -19,8 +19,6 @@ mod index;
 mod refused;
 mod scope;
 mod stmt;
-#[cfg(test)]
-mod tests;
 mod tree;
 mod whole;
 

@@ -7,8 +7,6 @@
 
 mod ledger;
 mod leg;
-#[cfg(test)]
-mod tests;
 
 pub use ledger::{Entering, Ledger};
 pub use leg::{LegKey, LegState, Reply};

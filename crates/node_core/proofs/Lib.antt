@@ -7,4 +7,3 @@ pub mod Sites
 pub mod Turning
 pub mod Making
 pub mod Rests
-pub mod Pairs

@@ -12,8 +12,6 @@ mod iterating;
 mod laws;
 mod node;
 mod part;
-#[cfg(test)]
-mod tests;
 mod yard;
 
 pub use laws::law_parts_are_orderly;

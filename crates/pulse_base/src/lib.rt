@@ -20,8 +20,6 @@ mod source;
 mod spawner;
 mod status;
 mod streams;
-#[cfg(test)]
-mod tests;
 
 pub use answer::{Answer, Cause, FaultKind};
 pub use event::{Event, Events, Trace, Traces};

@@ -13,8 +13,6 @@ mod images;
 mod input;
 mod processes;
 mod program;
-#[cfg(test)]
-mod tests;
 mod top;
 
 pub use input::MOST_INPUT;

@@ -7,7 +7,5 @@
 mod children;
 mod cluster;
 mod stops;
-#[cfg(test)]
-mod tests;
 
 pub use cluster::run_cluster;

@@ -11,8 +11,6 @@ mod extent;
 mod lengths;
 mod segments;
 mod statement;
-#[cfg(test)]
-mod tests;
 mod value;
 
 pub use built::{Built, build};

@@ -8,8 +8,6 @@
 mod instr;
 mod listing;
 mod row;
-#[cfg(test)]
-mod tests;
 mod word;
 
 pub use instr::Instr;

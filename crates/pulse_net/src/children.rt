@@ -19,8 +19,8 @@ impl<'a, R: Processes + AllocGlobal> Children<'a, R> {
         Children::of_file(rt, "/proc/self/exe")
     }
 
-    // Starts this file instead.
-    pub(crate) fn of_file(rt: &'a R, file: &'a str) -> Children<'a, R> {
+    /// The same of another file than the program's own.
+    pub fn of_file(rt: &'a R, file: &'a str) -> Children<'a, R> {
         Children {
             rt,
             file,

@@ -10,8 +10,6 @@ mod item;
 mod mem_link;
 mod mem_spawner;
 mod start;
-#[cfg(test)]
-mod tests;
 mod udp_link;
 
 pub use children::Children;

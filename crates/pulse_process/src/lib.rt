@@ -10,8 +10,6 @@ mod document;
 mod fault;
 mod node;
 mod switch;
-#[cfg(test)]
-mod tests;
 mod told;
 
 pub use ask::{ask_bound, client_text, run_ask};

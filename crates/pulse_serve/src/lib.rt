@@ -10,8 +10,6 @@ mod frames;
 mod node_loop;
 mod served;
 mod switch_loop;
-#[cfg(test)]
-mod tests;
 
 pub use client_loop::ask_all;
 pub use frames::post;

@@ -10,8 +10,6 @@ mod line;
 mod name;
 mod number;
 mod readers;
-#[cfg(test)]
-mod tests;
 mod words;
 
 pub use command::{Command, WordsFault};

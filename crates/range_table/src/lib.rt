@@ -9,8 +9,6 @@ mod fault;
 mod order;
 mod region;
 mod table;
-#[cfg(test)]
-mod tests;
 
 pub use fault::{MEMORY_END, TableFault};
 pub use region::{RegionSpan, Regions};

@@ -11,8 +11,6 @@ mod making;
 mod running;
 mod scenario;
 mod telling;
-#[cfg(test)]
-mod tests;
 
 pub use document::replay;
 pub use scenario::{Replayed, run_scenario};

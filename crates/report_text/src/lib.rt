@@ -6,8 +6,6 @@
 mod answer;
 mod outcome;
 mod region;
-#[cfg(test)]
-mod tests;
 mod text;
 mod trace;
 mod writer;

@@ -25,8 +25,6 @@ mod request;
 mod rest;
 mod scenario;
 mod table;
-#[cfg(test)]
-mod tests;
 mod value;
 mod words;
 

@@ -13,8 +13,6 @@ mod events;
 mod list_document;
 mod programs;
 mod shape;
-#[cfg(test)]
-mod tests;
 mod text;
 mod tree;
 

@@ -4,8 +4,6 @@
 #![tactic(auto)]
 
 mod switch;
-#[cfg(test)]
-mod tests;
 
 pub use run_rules::Out;
 pub use switch::Switch;
