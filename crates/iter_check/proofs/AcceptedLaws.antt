@@ -1,6 +1,6 @@
 -- Where the fault list is empty, so is the list of each part.
-use Rattle.std.proofs.Common.{◌≡◌, ℕ, zero, suc, ◌+◌, ◌*◌, ◌<◌, ◌≤◌, Bool, true, false, not, ◌||◌, cond, List, [], ◌∷◌, ◌++◌, length, Option, Some, None, unwrap_or, refl, sym, ap, ◌∙◌, arith, mul-suc, if◌then◌else◌}
-use Rattle.std.specs.Prelude.{nat_lt, nat_eq, slice_get, flat_map, find, fold, is_some, is_none}
+use Rattle.std.proofs.Common.{◌≡◌, ℕ, zero, suc, ◌+◌, ◌*◌, ◌≤◌, Bool, true, false, not, ◌||◌, cond, List, [], ◌∷◌, ◌++◌, length, Option, Some, None, unwrap_or, refl, sym, ap, ◌∙◌, arith, mul-suc, if◌then◌else◌}
+use Rattle.std.specs.Prelude.{nat_lt, slice_get, flat_map, find, fold, is_some, is_none}
 use Rattle.iter_syntax.specs.declared.tree.Place.{Place}
 use Rattle.iter_syntax.specs.declared.tree.Word.{Word}
 use Rattle.iter_syntax.specs.declared.tree.Width.{Width}

@@ -1,6 +1,5 @@
 -- Names that stand again, one after the other.
-use Rattle.std.proofs.Common.{◌≡◌, ℕ, zero, suc, ◌+◌, ◌<◌, ◌≤◌, List, [], ◌∷◌, ◌++◌, length, take, drop, get_or, Option, refl, sym, ap, ◌∙◌, arith, drop-cons}
-use Rattle.std.proofs.lemmas.List.{drop_all}
+use Rattle.std.proofs.Common.{◌≡◌, ℕ, zero, suc, ◌+◌, ◌<◌, List, [], ◌∷◌, ◌++◌, length, take, drop, get_or, Option, sym, ap, ◌∙◌, arith, drop-cons}
 use Rattle.iter_syntax.specs.declared.tree.Word.{Word}
 use Rattle.iter_check.specs.declared.kind.Fault.{Fault}
 use Rattle.iter_check.specs.declared.kind.CheckKind.TheVariants as k

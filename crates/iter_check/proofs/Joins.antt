@@ -1,18 +1,17 @@
 -- The first entry of the fault list, by its three groups; the list is empty exactly where there is none.
-use Rattle.std.proofs.Common.{◌≡◌, ℕ, ◌+◌, zero, suc, Bool, true, false, ◌||◌, List, [], ◌∷◌, ◌++◌, Option, Some, None, refl, sym, ap, ◌∙◌, arith, if◌then◌else◌}
-use Rattle.std.specs.Prelude.{nat_lt, slice_get, flat_map}
-use Rattle.iter_syntax.specs.declared.tree.RecordDecl.{RecordDecl}
+use Rattle.std.proofs.Common.{◌≡◌, ℕ, Bool, true, false, ◌||◌, List, [], ◌∷◌, ◌++◌, Option, Some, None, refl, sym, ap, ◌∙◌, arith, if◌then◌else◌}
+use Rattle.std.specs.Prelude.{nat_lt, slice_get}
 use Rattle.iter_syntax.specs.declared.tree.Iter.{Iter}
 use Rattle.iter_syntax.specs.declared.tree.Program.{Program}
 use Rattle.iter_check.specs.declared.kind.Fault.{Fault}
 use Rattle.iter_check.specs.declared.kind.CheckKind.TheVariants as k
 use Rattle.iter_check.specs.Faults.{fault, in_order}
-use Rattle.iter_check.specs.FaultList.{init_nodes, body_nodes, code_fault, code_faults, first_group, iter_indices, index_faults, or_later, fault_list}
-use Rattle.iter_check.specs.First.Least.{least, each}
+use Rattle.iter_check.specs.FaultList.{init_nodes, body_nodes, code_faults, first_group, index_faults, or_later, fault_list}
+use Rattle.iter_check.specs.First.Least.{each}
 use Rattle.iter_check.specs.First.Count.{up_to}
 use Rattle.iter_check.specs.First.Decl.{first_iter_indices, too_many_nodes, first_code, or_first, first_fault}
 use Rattle.iter_check.proofs.Order.{first_is_least}
-use Rattle.iter_check.proofs.First.Keeps.{Firsts, each_is}
+use Rattle.iter_check.proofs.First.Keeps.{each_is}
 use Rattle.iter_check.proofs.First.Decl.{group_is, iter_indices_is}
 
 first_or : (xs ys : List Fault) → slice_get (or_later xs ys) 0 ≡ or_first (slice_get xs 0) (slice_get ys 0)

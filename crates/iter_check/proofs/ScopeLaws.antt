@@ -1,7 +1,5 @@
 -- Names that come in scope and leave it.
-use Rattle.std.proofs.Common.{◌≡◌, ℕ, zero, suc, ◌+◌, ◌-◌, ◌<◌, List, [], ◌∷◌, ◌++◌, length, take, drop, get_or, refl, sym, ap, ◌∙◌, arith, append_assoc}
-use Rattle.std.specs.Prelude.{remove}
-use Rattle.std.proofs.lemmas.List.{length-append}
+use Rattle.std.proofs.Common.{◌≡◌, ℕ, zero, suc, ◌+◌, ◌<◌, List, [], ◌∷◌, ◌++◌, length, take, drop, get_or, refl, sym, ap, ◌∙◌, arith, append_assoc}
 use Rattle.iter_syntax.specs.declared.tree.Place.{Place}
 use Rattle.iter_syntax.specs.declared.tree.Word.{Word}
 use Rattle.iter_syntax.specs.declared.tree.Stmt.{Stmt}
@@ -9,7 +7,6 @@ use Rattle.iter_syntax.specs.Tree.{Ex, Sts, to_pad, to_cur, st, sts}
 use Rattle.std.specs.Prelude.{Option, Some, None}
 use Rattle.iter_check.specs.declared.kind.Fault.{Fault}
 use Rattle.iter_check.specs.declared.kind.CheckKind.TheVariants as k
-use Rattle.iter_check.specs.declared.scope.Binding.{Binding}
 use Rattle.iter_check.specs.Scope.{Scope, Ground}
 use Rattle.iter_check.specs.Typing.{of_cur, in_init}
 use Rattle.iter_check.specs.First.Least.{note}

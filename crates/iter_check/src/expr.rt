@@ -1,7 +1,8 @@
 // The faults and the types of expressions.
 
-ghost use Rattle.std.specs.Prelude.{◌≡◌, is_none};
+ghost use Rattle.std.specs.Prelude.{◌≡◌, Some, is_none};
 ghost use Rattle.iter_syntax.specs.Tree.{ex, used};
+ghost use Rattle.iter_check.specs.declared.sort.Sort.TheVariants as s;
 ghost use Rattle.iter_check.specs.Scope as sc;
 ghost use Rattle.iter_check.specs.Typing as ty;
 ghost use Rattle.iter_check.specs.Expressions as e;
@@ -15,7 +16,7 @@ use crate::sort::{Part, Sort};
 use crate::typing::{
     clash, gives, in_init, is_not, no_address, of_cur, of_one, of_two, same_sort, width_sort,
 };
-use iter_syntax::{Expr, FieldDecl, FieldUse, Place, Word};
+use iter_syntax::{BinaryOp, Expr, FieldDecl, FieldUse, Place, Word};
 
 /// Where an expression stands: in which block of its iterator, with which fields.
 #[derive(Clone, Copy)]
@@ -75,24 +76,55 @@ pub(crate) fn note_deep(best: &mut Option<Fault>, expr: &Expr)
     note(best, CheckKind::Depth, place_of(expr), deeper(7, expr));
 }
 
-fn name_sort(scope: &[Binding], name: &Word) -> Option<Sort>
-    ensures { result ≡ ty.name_sort (sc.bound scope.now name.now) }
+// The type of a name, and its fault.
+fn check_name(best: &mut Option<Fault>, scope: &[Binding], name: &Word) -> Option<Sort>
+    ensures sort { result ≡ ty.name_sort (sc.bound scope.now name.now) }
+    ensures faults { best.new ≡ note CheckKind.Name (name.now).place (is_none (sc.bound scope.now name.now)) best.old }
 {
-    match bound(scope, name) {
+    let found = bound(scope, name);
+    note(best, CheckKind::Name, name.place, found.is_none());
+    match found {
         None => None,
         Some(binding) => binding.sort,
     }
 }
 
-fn note_unknown(best: &mut Option<Fault>, scope: &[Binding], name: &Word)
-    ensures { best.new ≡ note CheckKind.Name (name.now).place (is_none (sc.bound scope.now name.now)) best.old }
+// The type of `cur`, and its fault.
+fn check_cur(best: &mut Option<Fault>, part: Part, place: Place) -> Option<Sort>
+    ensures sort { result ≡ ty.of_cur part (Some s.Ptr) }
+    ensures faults { best.new ≡ note CheckKind.Name place (ty.in_init part) best.old }
 {
-    note(
-        best,
-        CheckKind::Name,
-        name.place,
-        bound(scope, name).is_none(),
-    );
+    note(best, CheckKind::Name, place, in_init(part));
+    of_cur(part, Some(Sort::Ptr))
+}
+
+// The type of a binary operator over parts of these types, and the fault of its rule.
+fn check_binary(
+    best: &mut Option<Fault>,
+    place: Place,
+    op: BinaryOp,
+    left: Option<Sort>,
+    right: Option<Sort>,
+) -> Option<Sort>
+    ensures sort { result ≡ ty.of_two left right (ty.clash op left right) (ty.gives op) }
+    ensures faults { best.new ≡ note CheckKind.Typing place (ty.clash op left right) best.old }
+{
+    note(best, CheckKind::Typing, place, clash(op, left, right));
+    of_two(left, right, clash(op, left, right), gives(op))
+}
+
+// The type of `at` over parts of these types, and the fault of its rule.
+fn check_address(
+    best: &mut Option<Fault>,
+    place: Place,
+    base: Option<Sort>,
+    offset: Option<Sort>,
+) -> Option<Sort>
+    ensures sort { result ≡ ty.of_two base offset (ty.no_address base offset) s.Ptr }
+    ensures faults { best.new ≡ note CheckKind.Typing place (ty.no_address base offset) best.old }
+{
+    note(best, CheckKind::Typing, place, no_address(base, offset));
+    of_two(base, offset, no_address(base, offset), Sort::Ptr)
 }
 
 // The type of a field with no index, and its faults.
@@ -159,32 +191,12 @@ pub(crate) fn check_expr(
     match expr {
         Expr::Num { .. } => Some(Sort::Int),
         Expr::Null { .. } => Some(Sort::Ptr),
-        Expr::Name { name } => {
-            note_unknown(best, scope, name);
-            name_sort(scope, name)
-        }
-        Expr::Cur { place } => {
-            note(best, CheckKind::Name, *place, in_init(site.part));
-            of_cur(site.part, Some(Sort::Ptr))
-        }
-        Expr::CurField { place, field } => {
-            note(best, CheckKind::Name, *place, in_init(site.part));
-            of_cur(
-                site.part,
-                check_use(best, site, scope, site.record_fields, field),
-            )
-        }
+        Expr::Name { name } => check_name(best, scope, name),
+        Expr::Cur { place } => check_cur(best, site.part, *place),
+        Expr::CurField { place, field } => check_cur_field(best, site, scope, *place, field),
         Expr::PadField { field, .. } => check_use(best, site, scope, site.pad_fields, field),
-        Expr::Not { place, of } => {
-            let sort = check_expr(best, site, scope, of.get());
-            note(best, CheckKind::Typing, *place, is_not(Sort::Bool, sort));
-            of_one(sort, is_not(Sort::Bool, sort), Sort::Bool)
-        }
-        Expr::Flip { place, of } => {
-            let sort = check_expr(best, site, scope, of.get());
-            note(best, CheckKind::Typing, *place, is_not(Sort::Int, sort));
-            of_one(sort, is_not(Sort::Int, sort), Sort::Int)
-        }
+        Expr::Not { place, of } => check_one(best, site, scope, *place, Sort::Bool, of.get()),
+        Expr::Flip { place, of } => check_one(best, site, scope, *place, Sort::Int, of.get()),
         Expr::Binary {
             op_place,
             op,
@@ -193,8 +205,7 @@ pub(crate) fn check_expr(
         } => {
             let a = check_expr(best, site, scope, left.get());
             let b = check_expr(best, site, scope, right.get());
-            note(best, CheckKind::Typing, *op_place, clash(*op, a, b));
-            of_two(a, b, clash(*op, a, b), gives(*op))
+            check_binary(best, *op_place, *op, a, b)
         }
         Expr::At {
             place,
@@ -203,10 +214,44 @@ pub(crate) fn check_expr(
         } => {
             let a = check_expr(best, site, scope, base.get());
             let b = check_expr(best, site, scope, offset.get());
-            note(best, CheckKind::Typing, *place, no_address(a, b));
-            of_two(a, b, no_address(a, b), Sort::Ptr)
+            check_address(best, *place, a, b)
         }
     }
+}
+
+// The type of `!` or `~` over an expression, which gives the type that it wants, and its faults.
+#[cycle(exprs)]
+fn check_one(
+    best: &mut Option<Fault>,
+    site: &Site,
+    scope: &[Binding],
+    place: Place,
+    wanted: Sort,
+    of: &Expr,
+) -> Option<Sort>
+    ensures sort { let found = ty.sort_of (first.ground_of site.now) scope.now (ex of.now) in result ≡ ty.of_one found (ty.is_not wanted found) wanted }
+    ensures faults { best.new ≡ note CheckKind.Typing place (ty.is_not wanted (ty.sort_of (first.ground_of site.now) scope.now (ex of.now))) (first.first_expr (first.ground_of site.now) scope.now (ex of.now) best.old) }
+{
+    let sort = check_expr(best, site, scope, of);
+    note(best, CheckKind::Typing, place, is_not(wanted, sort));
+    of_one(sort, is_not(wanted, sort), wanted)
+}
+
+// The type of a field of `cur`, and its faults.
+#[cycle(exprs)]
+fn check_cur_field(
+    best: &mut Option<Fault>,
+    site: &Site,
+    scope: &[Binding],
+    place: Place,
+    field: &FieldUse,
+) -> Option<Sort>
+    ensures sort { let g = first.ground_of site.now in result ≡ ty.of_cur g.part (first.use_sort g scope.now g.record_fields (used field.now).0 (used field.now).1) }
+    ensures faults { let g = first.ground_of site.now in best.new ≡ first.first_use g scope.now g.record_fields (used field.now).0 (used field.now).1 (note CheckKind.Name place (ty.in_init g.part) best.old) }
+{
+    note(best, CheckKind::Name, place, in_init(site.part));
+    let sort = check_use(best, site, scope, site.record_fields, field);
+    of_cur(site.part, sort)
 }
 
 /// The type of a field's use, and its faults.

@@ -58,10 +58,7 @@ fn index_expr(
     ensures { OnOk result (best.new ≡ fi.first_expr_index (ground_of site.now) loops.now (ex expr.now) best.old) }
 {
     match expr {
-        Expr::Num { .. } => Ok(()),
-        Expr::Null { .. } => Ok(()),
-        Expr::Name { .. } => Ok(()),
-        Expr::Cur { .. } => Ok(()),
+        Expr::Num { .. } | Expr::Null { .. } | Expr::Name { .. } | Expr::Cur { .. } => Ok(()),
         Expr::CurField { field, .. } => {
             index_use(alloc, best, site, site.record_fields, loops, field)?;
             Ok(())
@@ -70,11 +67,7 @@ fn index_expr(
             index_use(alloc, best, site, site.pad_fields, loops, field)?;
             Ok(())
         }
-        Expr::Not { of, .. } => {
-            index_expr(alloc, best, site, loops, of.get())?;
-            Ok(())
-        }
-        Expr::Flip { of, .. } => {
+        Expr::Not { of, .. } | Expr::Flip { of, .. } => {
             index_expr(alloc, best, site, loops, of.get())?;
             Ok(())
         }
@@ -118,14 +111,14 @@ fn index_store(
     best: &mut Option<Fault>,
     site: &Site,
     fields: &[FieldDecl],
-    loops: &[Loop],
+    loops: &Loops,
     target: &FieldUse,
     value: &Expr,
 ) -> Result<(), Memory>
-    ensures { OnOk result (best.new ≡ fi.first_expr_index (ground_of site.now) loops.now (ex value.now) (fi.first_use_index (ground_of site.now) fields.now loops.now (used target.now).0 (used target.now).1 best.old)) }
+    ensures { OnOk result (best.new ≡ fi.first_expr_index (ground_of site.now) loops.now.items (ex value.now) (fi.first_use_index (ground_of site.now) fields.now loops.now.items (used target.now).0 (used target.now).1 best.old)) }
 {
-    index_use(alloc, best, site, fields, loops, target)?;
-    index_expr(alloc, best, site, loops, value)?;
+    index_use(alloc, best, site, fields, loops.as_slice(), target)?;
+    index_expr(alloc, best, site, loops.as_slice(), value)?;
     Ok(())
 }
 
@@ -142,47 +135,20 @@ fn index_stmt(
     ensures same { OnOk result (loops.new.items ≡ loops.old.items) }
 {
     match s {
-        Stmt::Let { value, .. } => {
+        Stmt::Let { value, .. } | Stmt::Set { value, .. } | Stmt::Go { to: value, .. } => {
             index_expr(alloc, best, site, loops.as_slice(), value)?;
-            Ok(())
-        }
-        Stmt::Set { value, .. } => {
-            index_expr(alloc, best, site, loops.as_slice(), value)?;
-            Ok(())
         }
         Stmt::SetPad { target, value, .. } => {
-            index_store(
-                alloc,
-                best,
-                site,
-                site.pad_fields,
-                loops.as_slice(),
-                target,
-                value,
-            )?;
-            Ok(())
+            index_store(alloc, best, site, site.pad_fields, loops, target, value)?;
         }
         Stmt::SetCur { target, value, .. } => {
-            index_store(
-                alloc,
-                best,
-                site,
-                site.record_fields,
-                loops.as_slice(),
-                target,
-                value,
-            )?;
-            Ok(())
+            index_store(alloc, best, site, site.record_fields, loops, target, value)?;
         }
         Stmt::If { test, yes, no, .. } => {
             index_expr(alloc, best, site, loops.as_slice(), test)?;
             index_block(alloc, best, site, loops, yes)?;
-            match no {
-                None => Ok(()),
-                Some(other) => {
-                    index_block(alloc, best, site, loops, other)?;
-                    Ok(())
-                }
+            if let Some(other) = no {
+                index_block(alloc, best, site, loops, other)?;
             }
         }
         Stmt::For {
@@ -191,16 +157,10 @@ fn index_stmt(
             past,
             body,
             ..
-        } => {
-            index_loop(alloc, best, site, loops, name, *first, *past, body)?;
-            Ok(())
-        }
-        Stmt::Done { .. } => Ok(()),
-        Stmt::Go { to, .. } => {
-            index_expr(alloc, best, site, loops.as_slice(), to)?;
-            Ok(())
-        }
+        } => index_loop(alloc, best, site, loops, name, *first, *past, body)?,
+        Stmt::Done { .. } => {}
     }
+    Ok(())
 }
 
 /// The faults of the indices in a block.

@@ -1,6 +1,6 @@
 // The faults of paths.
 
-ghost use Rattle.std.specs.Prelude.{◌≡◌, ◌||◌, false};
+ghost use Rattle.std.specs.Prelude.{◌≡◌, ◌&&◌, ◌||◌, false};
 ghost use Rattle.iter_syntax.specs.Tree.{st, sts, block};
 ghost use Rattle.iter_check.specs.Paths as pa;
 ghost use Rattle.iter_check.specs.First.Least.{note};
@@ -43,25 +43,22 @@ fn either(a: bool, b: bool) -> bool
     a || b
 }
 
+fn both(a: bool, b: bool) -> bool
+    ensures { result ≡ (a && b) }
+{
+    a && b
+}
+
 // Whether a statement ends; `late` says that one before it does.
 #[cycle(paths)]
 fn path_stmt(best: &mut Option<Fault>, part: Part, late: bool, s: &Stmt) -> bool
     ensures { first.Passed part late result (st s.now) best.old best.new }
 {
     match s {
-        Stmt::Let { place, .. } => {
-            note_late(best, *place, late);
-            false
-        }
-        Stmt::Set { place, .. } => {
-            note_late(best, *place, late);
-            false
-        }
-        Stmt::SetPad { place, .. } => {
-            note_late(best, *place, late);
-            false
-        }
-        Stmt::SetCur { place, .. } => {
+        Stmt::Let { place, .. }
+        | Stmt::Set { place, .. }
+        | Stmt::SetPad { place, .. }
+        | Stmt::SetCur { place, .. } => {
             note_late(best, *place, late);
             false
         }
@@ -70,10 +67,7 @@ fn path_stmt(best: &mut Option<Fault>, part: Part, late: bool, s: &Stmt) -> bool
             let yes_ends = path_block(best, part, yes);
             match no {
                 None => false,
-                Some(other) => {
-                    let no_ends = path_block(best, part, other);
-                    yes_ends && no_ends
-                }
+                Some(other) => both(yes_ends, path_block(best, part, other)),
             }
         }
         Stmt::For { place, body, .. } => {

@@ -180,35 +180,21 @@ fn check_stmt(
     ensures grows { OnOk result (fs.Grows scope.old.items scope.new.items) }
 {
     match s {
-        Stmt::Let { name, value, .. } => {
-            check_let(alloc, best, site, scope, name, value)?;
-            Ok(())
-        }
-        Stmt::Set { name, value, .. } => {
-            check_set(best, site, scope.as_slice(), name, value);
-            Ok(())
-        }
+        Stmt::Let { name, value, .. } => check_let(alloc, best, site, scope, name, value)?,
+        Stmt::Set { name, value, .. } => check_set(best, site, scope.as_slice(), name, value),
         Stmt::SetPad { target, value, .. } => {
             check_store_pad(best, site, scope.as_slice(), target, value);
-            Ok(())
         }
         Stmt::SetCur {
             place,
             target,
             value,
-        } => {
-            check_store_cur(best, site, scope.as_slice(), *place, target, value);
-            Ok(())
-        }
+        } => check_store_cur(best, site, scope.as_slice(), *place, target, value),
         Stmt::If { test, yes, no, .. } => {
             check_wanted(best, site, scope.as_slice(), Some(Sort::Bool), test);
             check_block(alloc, best, site, scope, yes)?;
-            match no {
-                None => Ok(()),
-                Some(other) => {
-                    check_block(alloc, best, site, scope, other)?;
-                    Ok(())
-                }
+            if let Some(other) = no {
+                check_block(alloc, best, site, scope, other)?;
             }
         }
         Stmt::For {
@@ -217,16 +203,11 @@ fn check_stmt(
             past,
             body,
             ..
-        } => {
-            check_loop(alloc, best, site, scope, name, *first, *past, body)?;
-            Ok(())
-        }
-        Stmt::Done { .. } => Ok(()),
-        Stmt::Go { to, .. } => {
-            check_wanted(best, site, scope.as_slice(), Some(Sort::Ptr), to);
-            Ok(())
-        }
+        } => check_loop(alloc, best, site, scope, name, *first, *past, body)?,
+        Stmt::Done { .. } => {}
+        Stmt::Go { to, .. } => check_wanted(best, site, scope.as_slice(), Some(Sort::Ptr), to),
     }
+    Ok(())
 }
 
 /// A block, whose names leave with it.

@@ -1,5 +1,5 @@
 -- What the checker keeps of an expression is the first of its faults.
-use Rattle.std.proofs.Common.{◌≡◌, ℕ, zero, suc, ◌+◌, max, true, false, ◌||◌, List, ◌++◌, Option, ap, ◌∙◌, refl, arith}
+use Rattle.std.proofs.Common.{◌≡◌, ℕ, zero, suc, ◌+◌, max, ◌||◌, List, ◌++◌, Option, ap, ◌∙◌, refl, arith}
 use Rattle.std.specs.Prelude.{nat_lt, is_none}
 use Rattle.iter_syntax.specs.Tree.{Ex}
 use Rattle.iter_syntax.specs.Tree as t

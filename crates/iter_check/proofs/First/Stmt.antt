@@ -1,6 +1,6 @@
 -- What the checker keeps of statements, paths aside, is the first of their faults.
-use Rattle.std.proofs.Common.{ℕ, ◌-◌, true, false, not, ◌||◌, Option, Some}
-use Rattle.std.specs.Prelude.{nat_le, nat_lt, is_some}
+use Rattle.std.proofs.Common.{true, false, not, Option, Some}
+use Rattle.std.specs.Prelude.{nat_le}
 use Rattle.iter_syntax.specs.Tree.{Ex, Sts}
 use Rattle.iter_syntax.specs.Tree as t
 use Rattle.iter_check.specs.declared.sort.Sort.{Sort}

@@ -1,5 +1,5 @@
 -- The first fault of paths.
-use Rattle.std.specs.Prelude.{◌≡◌, Bool, true, false, not, ◌&&◌, ◌||◌, Option}
+use Rattle.std.specs.Prelude.{◌≡◌, Bool, true, false, ◌&&◌, ◌||◌, Option}
 use Rattle.iter_syntax.specs.Tree.{Sts}
 use Rattle.iter_syntax.specs.Tree as t
 use Rattle.iter_check.specs.declared.kind.CheckKind.TheVariants as k

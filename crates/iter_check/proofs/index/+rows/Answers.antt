@@ -1,5 +1,5 @@
-use Rattle.std.proofs.Common.{◌≡◌, refl, sym, ap, ◌∙◌, ◌+◌, ◌++◌, [], ◌∷◌, take, drop, subst}
-use Rattle.iter_syntax.specs.Tree.{st, sts, block}
+use Rattle.std.proofs.Common.{◌≡◌, sym, ap, ◌∙◌, ◌+◌, take, drop, subst}
+use Rattle.iter_syntax.specs.Tree.{st, sts}
 use Rattle.iter_syntax.proofs.FoldLaws.{block_is}
 use Rattle.iter_check.specs.First.Expr.{ground_of}
 use Rattle.iter_check.specs.First.Index.{first_indices}

@@ -1,4 +1,4 @@
-use Rattle.std.proofs.Common.{◌≡◌, false, sym, ap, ◌∙◌, ◌++◌, [], ◌∷◌, take, arith}
+use Rattle.std.proofs.Common.{sym, ap, ◌∙◌, ◌++◌, [], ◌∷◌, take, arith}
 use Rattle.iter_syntax.specs.Tree.{ex}
 use Rattle.iter_check.specs.Indices as ix
 use Rattle.iter_check.proofs.IndexLaws.{for_step, turn_is, back}

@@ -1,6 +1,5 @@
 use Rattle.std.proofs.Common.{◌≡◌, ℕ, ◌+◌, ◌-◌, ◌*◌, Bool, List, [], ◌∷◌, ◌++◌, length, drop}
-use Rattle.iter_syntax.specs.Tree.{Ex, ex}
-use Rattle.iter_check.specs.declared.loops.Loop.{Loop}
+use Rattle.iter_syntax.specs.Tree.{ex}
 use Rattle.iter_check.specs.Indices as ix
 use Rattle.iter_check.proofs.loops.+turns.Given as goal
 

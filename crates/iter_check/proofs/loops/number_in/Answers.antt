@@ -1,4 +1,4 @@
-use Rattle.std.proofs.Common.{◌≡◌, false, sym, ap, ◌∙◌, arith}
+use Rattle.std.proofs.Common.{sym, ◌∙◌, arith}
 use Rattle.iter_check.specs.Layout.{text}
 use Rattle.iter_check.proofs.IndexLaws.{number_step, number_done}
 use Rattle.iter_check.proofs.loops.number_in.Goals as goal

@@ -1,5 +1,5 @@
-use Rattle.std.proofs.Common.{◌≡◌, false, refl, sym, ap, ◌∙◌, ◌+◌, drop}
-use Rattle.iter_syntax.specs.Tree.{sts, block}
+use Rattle.std.proofs.Common.{false, sym, ap, ◌∙◌, ◌+◌, drop}
+use Rattle.iter_syntax.specs.Tree.{sts}
 use Rattle.iter_syntax.proofs.FoldLaws.{block_is}
 use Rattle.iter_check.specs.Paths.{ends, ends_after}
 use Rattle.iter_check.specs.First.Path.{first_paths}

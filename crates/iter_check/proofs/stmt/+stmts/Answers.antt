@@ -1,5 +1,5 @@
-use Rattle.std.proofs.Common.{◌≡◌, refl, sym, ap, ◌∙◌, ◌+◌, [], ◌∷◌, drop}
-use Rattle.iter_syntax.specs.Tree.{sts, block}
+use Rattle.std.proofs.Common.{sym, ap, ◌∙◌, ◌+◌, drop}
+use Rattle.iter_syntax.specs.Tree.{sts}
 use Rattle.iter_syntax.proofs.FoldLaws.{block_is}
 use Rattle.iter_check.specs.First.Expr.{ground_of}
 use Rattle.iter_check.specs.First.Stmt.{first_scoping}
@@ -11,10 +11,6 @@ check_block-returns-clause-faults t c =
     c.in_ok-check_row.ensures.faults
     ∙ ap (λ ss. first_scoping (ground_of c.args.site.now) c.args.scope.now.items (sts ss) c.args.best.now) c.as_slice.ensures
     ∙ ap (λ ss. first_scoping (ground_of c.args.site.now) c.args.scope.now.items ss c.args.best.now) (sym (block_is c.args.body.now))
-
-pub check_stmt-returns-in_ok-check_let-in-Let-clause-grows :
-    goal.check_stmt-returns-in_ok-check_let-in-Let-clause-grows
-check_stmt-returns-in_ok-check_let-in-Let-clause-grows t c = (_, c.in_ok-check_let-in-Let.ensures.scope)
 
 pub check_row-row-preserved : goal.check_row-row-preserved
 check_row-row-preserved t c =

@@ -1,4 +1,3 @@
-use Rattle.std.proofs.Common.{sym, ap, ◌∙◌}
 use Rattle.iter_check.proofs.AcceptedLaws.{accepted_iter}
 use Rattle.iter_check.proofs.checked.Checked.iter.Goals as goal
 
