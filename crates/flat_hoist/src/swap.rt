@@ -1,7 +1,7 @@
 // A slot in place of each read of a field.
 
 ghost use Rattle.std.specs.Prelude.{◌≡◌, IfOk};
-ghost use Rattle.iter_unroll.specs.Flat.{Fs};
+ghost use Rattle.iter_unroll.specs.Flat.{Fs, cur_field, pad_field};
 ghost use Rattle.iter_unroll.specs.Tree.{fx, fst, fsts};
 ghost use Rattle.flat_hoist.specs.hoisting.Swapped.{in_slot, all_in_slot, before};
 
@@ -20,6 +20,28 @@ fn boxed(alloc: Global, e: FlatExpr) -> Result<Boxed<FlatExpr>, Memory>
     }
 }
 
+// A read of these bytes of the record, or the slot where they are the field.
+fn swap_cur(field: Field, slot: u8, bytes: FlatUse) -> FlatExpr
+    ensures { fx result ≡ in_slot field slot (cur_field bytes.off bytes.width) }
+{
+    if !field.pad && field.has_bytes(bytes) {
+        FlatExpr::Local { slot }
+    } else {
+        FlatExpr::CurField { field: bytes }
+    }
+}
+
+// A read of these bytes of the pad, or the slot where they are the field.
+fn swap_pad(field: Field, slot: u8, bytes: FlatUse) -> FlatExpr
+    ensures { fx result ≡ in_slot field slot (pad_field bytes.off bytes.width) }
+{
+    if field.pad && field.has_bytes(bytes) {
+        FlatExpr::Local { slot }
+    } else {
+        FlatExpr::PadField { field: bytes }
+    }
+}
+
 // The expression, with the slot in place of each read of the field.
 fn swap_expr(alloc: Global, field: Field, slot: u8, e: &FlatExpr) -> Result<FlatExpr, Memory>
     ensures { IfOk result (λ swapped. fx swapped ≡ in_slot field slot (fx e.now)) }
@@ -30,47 +52,35 @@ fn swap_expr(alloc: Global, field: Field, slot: u8, e: &FlatExpr) -> Result<Flat
         FlatExpr::Arg { number } => Ok(FlatExpr::Arg { number: *number }),
         FlatExpr::Local { slot } => Ok(FlatExpr::Local { slot: *slot }),
         FlatExpr::Cur => Ok(FlatExpr::Cur),
-        FlatExpr::CurField { field: bytes } => {
-            if !field.pad && field.has_bytes(*bytes) {
-                Ok(FlatExpr::Local { slot })
-            } else {
-                Ok(FlatExpr::CurField { field: *bytes })
-            }
-        }
-        FlatExpr::PadField { field: bytes } => {
-            if field.pad && field.has_bytes(*bytes) {
-                Ok(FlatExpr::Local { slot })
-            } else {
-                Ok(FlatExpr::PadField { field: *bytes })
-            }
-        }
+        FlatExpr::CurField { field: bytes } => Ok(swap_cur(field, slot, *bytes)),
+        FlatExpr::PadField { field: bytes } => Ok(swap_pad(field, slot, *bytes)),
         FlatExpr::Not { of } => {
-            let inner = swap_expr(alloc, field, slot, of.get())?;
+            let of = swap_expr(alloc, field, slot, of.get())?;
             Ok(FlatExpr::Not {
-                of: boxed(alloc, inner)?,
+                of: boxed(alloc, of)?,
             })
         }
         FlatExpr::Flip { of } => {
-            let inner = swap_expr(alloc, field, slot, of.get())?;
+            let of = swap_expr(alloc, field, slot, of.get())?;
             Ok(FlatExpr::Flip {
-                of: boxed(alloc, inner)?,
+                of: boxed(alloc, of)?,
             })
         }
         FlatExpr::Binary { op, left, right } => {
-            let first = swap_expr(alloc, field, slot, left.get())?;
-            let second = swap_expr(alloc, field, slot, right.get())?;
+            let left = swap_expr(alloc, field, slot, left.get())?;
+            let right = swap_expr(alloc, field, slot, right.get())?;
             Ok(FlatExpr::Binary {
                 op: *op,
-                left: boxed(alloc, first)?,
-                right: boxed(alloc, second)?,
+                left: boxed(alloc, left)?,
+                right: boxed(alloc, right)?,
             })
         }
         FlatExpr::At { base, offset } => {
-            let first = swap_expr(alloc, field, slot, base.get())?;
-            let second = swap_expr(alloc, field, slot, offset.get())?;
+            let base = swap_expr(alloc, field, slot, base.get())?;
+            let offset = swap_expr(alloc, field, slot, offset.get())?;
             Ok(FlatExpr::At {
-                base: boxed(alloc, first)?,
-                offset: boxed(alloc, second)?,
+                base: boxed(alloc, base)?,
+                offset: boxed(alloc, offset)?,
             })
         }
     }
