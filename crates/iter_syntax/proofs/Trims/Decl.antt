@@ -12,10 +12,11 @@ use Rattle.iter_syntax.specs.Grammar.{Grammar, pair, value, either}
 use Rattle.iter_syntax.specs.Form.{Form}
 use Rattle.iter_syntax.specs.Productions as P
 use Rattle.iter_syntax.specs.Printed.{Kinds, key, sym as kind, word, width_key, type_kinds, field_kinds, fields_kinds, record_kinds, arg_kinds, args_kinds, between, braces, next_word, block_kinds, iter_kinds, decl_kinds}
+use Rattle.iter_syntax.specs.Steps.Printing.{or_none}
 use Rattle.iter_syntax.proofs.TokenKinds.{kinds}
 use Rattle.iter_syntax.proofs.Trims.{Trims}
 use Rattle.iter_syntax.proofs.Trims.Scan.{Closed, Ended, closed_round, closed_square, closed_brace, ended_brace}
-use Rattle.iter_syntax.proofs.Trims.Pieces.{AllPrint, kinds_of, one_symbol, or_none, prints_pair, prints_value, prints_either, prints_optional, prints_many, prints_keyword, prints_symbol, prints_next, prints_word, prints_number, before_last, before_pair, prints_enclosed, prints_brackets}
+use Rattle.iter_syntax.proofs.Trims.Pieces.{AllPrint, kinds_of, one_symbol, prints_pair, prints_value, prints_either, prints_optional, prints_many, prints_keyword, prints_symbol, prints_next, prints_word, prints_number, before_last, before_pair, prints_enclosed, prints_brackets}
 use Rattle.iter_syntax.proofs.Trims.Stmt.{block_prints}
 
 pub record TrimsDecl (ts : List Token) (x : P.Decl) : Type 0 where

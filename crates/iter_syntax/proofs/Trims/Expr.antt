@@ -13,11 +13,12 @@ use Rattle.iter_syntax.specs.Grammar.{Grammar, pair, value, either}
 use Rattle.iter_syntax.specs.Form.{Form}
 use Rattle.iter_syntax.specs.Productions as P
 use Rattle.iter_syntax.specs.Printed.{Kinds, key, sym as kind, word, between, level_of, in_parentheses, expr_kinds}
+use Rattle.iter_syntax.specs.Steps.Printing.{or_none, use_kinds}
 use Rattle.iter_syntax.proofs.TokenKinds.{kinds}
 use Rattle.iter_syntax.proofs.Trims.{Trims}
 use Rattle.iter_syntax.proofs.Trims.Scan.{closed_round, closed_square}
 use Rattle.iter_syntax.proofs.ExprLaws.{ex_num, ex_null, ex_name, ex_cur, ex_cur_field, ex_pad_field, ex_not, ex_flip, ex_at, used_is}
-use Rattle.iter_syntax.proofs.Trims.Pieces.{Prints, AllPrint, or_none, prints_pair, prints_value, prints_optional, prints_keyword, prints_symbol, prints_word, prints_number, before_last, before_pair, prints_enclosed, prints_brackets}
+use Rattle.iter_syntax.proofs.Trims.Pieces.{Prints, AllPrint, prints_pair, prints_value, prints_optional, prints_keyword, prints_symbol, prints_word, prints_number, before_last, before_pair, prints_enclosed, prints_brackets}
 use Rattle.iter_syntax.proofs.Trims.Level.{AllTrim, bare, prints_expr, round_trims, level_trims}
 pub use Rattle.iter_syntax.proofs.Trims.Level.{TrimsExpr}
 
@@ -34,8 +35,6 @@ atom f a g low same h = record {
 }
 
 -- the use of a field
-abbrev pub use_kinds : Used → Kinds
-use_kinds u = word u.0 ∷ or_none (λ e. between S.OpenSquare (expr_kinds e) S.CloseSquare) u.1
 
 mapped : (i : Option Expr) → or_none (λ e. between S.OpenSquare (expr_kinds e) S.CloseSquare) (option_map ex i) ≡ or_none (λ e. between S.OpenSquare (expr_kinds (ex e)) S.CloseSquare) i
 mapped None = refl

@@ -11,6 +11,7 @@ use Rattle.iter_syntax.specs.Grammar.{Grammar, token, pair, value, row, many, op
 use Rattle.iter_syntax.specs.Productions as P
 use Rattle.iter_syntax.specs.Printed.{Kinds, key, sym as kind, word, between, next_word}
 use Rattle.iter_syntax.specs.Operators.{symbol_of_operator}
+use Rattle.iter_syntax.specs.Steps.Printing.{or_none}
 use Rattle.iter_syntax.proofs.TokenKinds.{kinds, kinds-append}
 use Rattle.iter_syntax.proofs.Trims.{Trims, trims_same, trims_join}
 use Rattle.iter_syntax.proofs.Trims.Scan.{Closed, closed_none, closed_token, closed_join}
@@ -53,10 +54,6 @@ prints_either a b f h k = record { all = all }
     all : (ts : List Token) (x : _) → (either a b).whole ts x → Prints (f x) (kinds ts)
     all ts x (inl w) = h.all ts x w
     all ts x (inr w) = k.all ts x w
-
-abbrev pub or_none : {A : Type 0} → (A → Kinds) → Option A → Kinds
-or_none f None = []
-or_none f (Some x) = f x
 
 pub prints_optional : {A : Type 0} (a : Grammar A) (f : A → Kinds) → AllPrint a f → AllPrint (optional a) (or_none f)
 prints_optional a f h = record { all = all }

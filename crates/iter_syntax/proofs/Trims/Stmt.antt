@@ -15,10 +15,11 @@ use Rattle.iter_syntax.specs.Tree.{Ex, Sts, end, to_pad, to_cur, branch, ex, use
 use Rattle.iter_syntax.specs.Form.{Form, both}
 use Rattle.iter_syntax.specs.Productions as P
 use Rattle.iter_syntax.specs.Printed.{Kinds, key, sym as kind, word, gets, item, braces, expr_kinds, stmt_kinds, block_kinds}
+use Rattle.iter_syntax.specs.Steps.Printing.{or_none, use_kinds, given}
 use Rattle.iter_syntax.proofs.Trims.Scan.{closed_brace}
 use Rattle.iter_syntax.proofs.FoldLaws.{st_let, st_set, st_set_pad, st_set_cur, st_if, st_for, st_done, st_go, block_is}
-use Rattle.iter_syntax.proofs.Trims.Pieces.{AllPrint, or_none, prints_pair, prints_value, prints_either, prints_optional, prints_many, prints_keyword, prints_symbol, prints_word, prints_number, before_last, prints_enclosed}
-use Rattle.iter_syntax.proofs.Trims.Expr.{use_kinds, prints_use, expr_prints}
+use Rattle.iter_syntax.proofs.Trims.Pieces.{AllPrint, prints_pair, prints_value, prints_either, prints_optional, prints_many, prints_keyword, prints_symbol, prints_word, prints_number, before_last, prints_enclosed}
+use Rattle.iter_syntax.proofs.Trims.Expr.{prints_use, expr_prints}
 
 -- ---- a statement before a rest
 
@@ -52,7 +53,7 @@ step_before (O.Go p e) rest = put (key W.Go ∷ expr_kinds (ex e) ++ kind S.Semi
 abbrev pub alone_kinds : Stmt → Kinds
 alone_kinds s = stmt_kinds (st s end)
 
-st_before : (s : Stmt) (rest : Sts) → stmt_kinds (st s rest) ≡ alone_kinds s ++ stmt_kinds rest
+pub st_before : (s : Stmt) (rest : Sts) → stmt_kinds (st s rest) ≡ alone_kinds s ++ stmt_kinds rest
 st_before s rest =
     subst (λ f. stmt_kinds (f rest) ≡ stmt_kinds (f end) ++ stmt_kinds rest) (sym (fold_out-Stmt (Sts → Sts) Sts st_step block_step s)) (step_before _ rest)
 
@@ -67,10 +68,6 @@ ExprPrints e = AllPrint e.grammar (λ x. expr_kinds (ex x))
 
 abbrev BlockPrints : Form Block → Type 0
 BlockPrints b = AllPrint b.grammar block_kinds
-
--- the value that a target gets
-abbrev given : Ex → Kinds
-given e = kind S.Assign ∷ (expr_kinds e ++ kind S.Semicolon ∷ [])
 
 gets_is : (target : Kinds) (e : Ex) → gets target e ++ [] ≡ target ++ given e
 gets_is target e = append-nil (gets target e) ∙ append_assoc target (kind S.Assign ∷ expr_kinds e) (kind S.Semicolon ∷ [])
@@ -93,11 +90,11 @@ prints_target k e h =
     prints_value P.to_target _ _ _ (λ x. refl)
     (prints_pair _ _ _ _ (prints_keyword k) (prints_pair _ _ _ _ (prints_symbol S.Dot (λ n. refl)) (prints_pair _ _ (λ u. use_kinds (used u)) _ (prints_use e h) (prints_given e h))))
 
-pad_kinds : (p : Place) (w : Word) (i : Option Ex) (e : Ex) → stmt_kinds (to_pad p w i e end) ≡ key W.Pad ∷ kind S.Dot ∷ (use_kinds (w, i) ++ given e)
+pub pad_kinds : (p : Place) (w : Word) (i : Option Ex) (e : Ex) → stmt_kinds (to_pad p w i e end) ≡ key W.Pad ∷ kind S.Dot ∷ (use_kinds (w, i) ++ given e)
 pad_kinds p w None e = gets_is (key W.Pad ∷ kind S.Dot ∷ word w ∷ []) e
 pad_kinds p w (Some i) e = gets_is (key W.Pad ∷ kind S.Dot ∷ item w i) e
 
-cur_kinds : (p : Place) (w : Word) (i : Option Ex) (e : Ex) → stmt_kinds (to_cur p w i e end) ≡ key W.Cur ∷ kind S.Dot ∷ (use_kinds (w, i) ++ given e)
+pub cur_kinds : (p : Place) (w : Word) (i : Option Ex) (e : Ex) → stmt_kinds (to_cur p w i e end) ≡ key W.Cur ∷ kind S.Dot ∷ (use_kinds (w, i) ++ given e)
 cur_kinds p w None e = gets_is (key W.Cur ∷ kind S.Dot ∷ word w ∷ []) e
 cur_kinds p w (Some i) e = gets_is (key W.Cur ∷ kind S.Dot ∷ item w i) e
 
@@ -112,10 +109,10 @@ prints_set_cur e h =
     (prints_target W.Cur e h)
 
 -- what stands behind `else`
-abbrev else_kinds : Block → Kinds
+abbrev pub else_kinds : Block → Kinds
 else_kinds b = key W.Else ∷ block_kinds b
 
-if_kinds : (p : Place) (t : Ex) (first : Sts) (other : Option Block) →
+pub if_kinds : (p : Place) (t : Ex) (first : Sts) (other : Option Block) →
     stmt_kinds (branch p t first (option_map block other) end) ≡ key W.If ∷ (expr_kinds t ++ (braces (stmt_kinds first) ++ or_none else_kinds other))
 if_kinds p t first None = append_assoc (key W.If ∷ expr_kinds t) (braces (stmt_kinds first)) []
 if_kinds p t first (Some other) = append-nil _ ∙ append_assoc (key W.If ∷ expr_kinds t) (braces (stmt_kinds first)) (else_kinds other)

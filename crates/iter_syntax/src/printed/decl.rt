@@ -1,8 +1,10 @@
 // Records, iterators and programs.
 
+#![tactic(auto, using(crate::proofs::Printing::all_append))]
+
 ghost use Rattle.std.specs.Prelude.{◌≡◌, ◌<◌, ◌≤◌, ◌⊎◌, length, drop, IsTrue, OnOk};
 ghost use Rattle.iter_syntax.specs.Printed as P;
-ghost use Rattle.iter_syntax.specs.Steps.Printing.{add_type, add_field, add_fields, add_record, add_arg, add_args, add_head, add_iter, add_decl, add_each, iter_next};
+ghost use Rattle.iter_syntax.specs.Steps.Printing.{add_all, head_kinds, iter_next};
 
 use super::stmt::put_block;
 use super::text::{put_keyword, put_name, put_next, put_number, put_symbol};
@@ -24,7 +26,7 @@ fn width_keyword(width: Width) -> Keyword
 
 /// A width, or `[ width ; len ]`.
 fn put_type(text: &mut Bytes, width: Width, len: Option<u64>) -> Result<(), Memory>
-    ensures { OnOk result (text.new ≡ add_type width len text.old) }
+    ensures { OnOk result (text.new ≡ add_all (P.type_kinds width len) text.old) }
 {
     match len {
         None => {
@@ -43,7 +45,7 @@ fn put_type(text: &mut Bytes, width: Width, len: Option<u64>) -> Result<(), Memo
 }
 
 fn put_field(text: &mut Bytes, field: &FieldDecl) -> Result<(), Memory>
-    ensures { OnOk result (text.new ≡ add_field field.now text.old) }
+    ensures { OnOk result (text.new ≡ add_all (P.field_kinds field.now) text.old) }
 {
     put_name(text, &field.name)?;
     put_symbol(text, Symbol::Colon)?;
@@ -54,7 +56,7 @@ fn put_field(text: &mut Bytes, field: &FieldDecl) -> Result<(), Memory>
 
 /// `{ fields }`
 fn put_fields(text: &mut Bytes, fields: &[FieldDecl]) -> Result<(), Memory>
-    ensures { OnOk result (text.new ≡ add_fields fields.now text.old) }
+    ensures { OnOk result (text.new ≡ add_all (P.fields_kinds fields.now) text.old) }
 {
     put_symbol(text, Symbol::OpenBrace)?;
     'row: for field in fields {
@@ -65,7 +67,7 @@ fn put_fields(text: &mut Bytes, fields: &[FieldDecl]) -> Result<(), Memory>
 }
 
 fn put_record(text: &mut Bytes, decl: &RecordDecl) -> Result<(), Memory>
-    ensures { OnOk result (text.new ≡ add_record decl.now text.old) }
+    ensures { OnOk result (text.new ≡ add_all (P.record_kinds decl.now) text.old) }
 {
     put_keyword(text, Keyword::Record)?;
     put_name(text, &decl.name)?;
@@ -74,7 +76,7 @@ fn put_record(text: &mut Bytes, decl: &RecordDecl) -> Result<(), Memory>
 }
 
 fn put_arg(text: &mut Bytes, arg: &Arg) -> Result<(), Memory>
-    ensures { OnOk result (text.new ≡ add_arg arg.now text.old) }
+    ensures { OnOk result (text.new ≡ add_all (P.arg_kinds arg.now) text.old) }
 {
     put_name(text, &arg.name)?;
     put_symbol(text, Symbol::Colon)?;
@@ -91,7 +93,7 @@ fn put_arg(text: &mut Bytes, arg: &Arg) -> Result<(), Memory>
 
 /// Arguments with commas between them.
 fn put_args(text: &mut Bytes, args: &[Arg]) -> Result<(), Memory>
-    ensures { OnOk result (text.new ≡ add_args args.now text.old) }
+    ensures { OnOk result (text.new ≡ add_all (P.args_kinds args.now) text.old) }
 {
     'row: for i in 0..args.len() {
         if i > 0 {
@@ -104,7 +106,7 @@ fn put_args(text: &mut Bytes, args: &[Arg]) -> Result<(), Memory>
 
 /// `iter name on on { pad { fields }`
 fn put_head(text: &mut Bytes, iter: &Iter) -> Result<(), Memory>
-    ensures { OnOk result (text.new ≡ add_head iter.now text.old) }
+    ensures { OnOk result (text.new ≡ add_all (head_kinds iter.now) text.old) }
 {
     put_keyword(text, Keyword::Iter)?;
     put_name(text, &iter.name)?;
@@ -117,7 +119,7 @@ fn put_head(text: &mut Bytes, iter: &Iter) -> Result<(), Memory>
 }
 
 fn put_iter(text: &mut Bytes, iter: &Iter) -> Result<(), Memory>
-    ensures { OnOk result (text.new ≡ add_iter iter.now text.old) }
+    ensures { OnOk result (text.new ≡ add_all (P.iter_kinds iter.now) text.old) }
 {
     put_head(text, iter)?;
     put_keyword(text, Keyword::Init)?;
@@ -146,7 +148,7 @@ fn iter_comes(records: &[RecordDecl], iters: &[Iter]) -> bool
 
 /// The records and iterators in the order of their places.
 pub(super) fn put_program(text: &mut Bytes, program: &Program) -> Result<(), Memory>
-    ensures { OnOk result (text.new ≡ add_each add_decl (P.in_order program.now.records program.now.iters) text.old) }
+    ensures { OnOk result (text.new ≡ add_all (P.program_kinds program.now) text.old) }
 {
     let mut records = program.records.as_slice();
     let mut iters = program.iters.as_slice();

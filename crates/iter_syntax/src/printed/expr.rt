@@ -1,9 +1,11 @@
 // Expressions, with parentheses only where the grouping needs them.
 
-ghost use Rattle.std.specs.Prelude.{◌≡◌, OnOk, nat_lt};
+#![tactic(auto, using(crate::proofs::Printing::all_append))]
+
+ghost use Rattle.std.specs.Prelude.{◌≡◌, OnOk};
 ghost use Rattle.iter_syntax.specs.Tree.{ex, used};
 ghost use Rattle.iter_syntax.specs.Printed as P;
-ghost use Rattle.iter_syntax.specs.Steps.Printing.{add, add_expr, add_use, within};
+ghost use Rattle.iter_syntax.specs.Steps.Printing.{add, add_all, use_kinds};
 
 use super::text::{put_keyword, put_name, put_number, put_symbol};
 use crate::token::{Keyword, Symbol};
@@ -38,7 +40,7 @@ fn level_of(e: &Expr) -> usize
 /// An expression without parentheses around it.
 #[cycle(expr)]
 pub(super) fn put_expr(text: &mut Bytes, e: &Expr) -> Result<(), Memory>
-    ensures { OnOk result (text.new ≡ add_expr (ex e.now) text.old) }
+    ensures { OnOk result (text.new ≡ add_all (P.expr_kinds (ex e.now)) text.old) }
 {
     match e {
         Expr::Num { value, .. } => put_number(text, *value),
@@ -76,7 +78,7 @@ pub(super) fn put_expr(text: &mut Bytes, e: &Expr) -> Result<(), Memory>
 /// `!` or `~`, and its operand.
 #[cycle(expr)]
 fn put_unary(text: &mut Bytes, sign: Symbol, of: &Expr) -> Result<(), Memory>
-    ensures { OnOk result (text.new ≡ within (nat_lt 0 (P.level_of (ex of.now))) (add_expr (ex of.now)) (add (P.sym sign) text.old)) }
+    ensures { OnOk result (text.new ≡ add_all (P.in_parentheses 0 (P.level_of (ex of.now)) (P.expr_kinds (ex of.now))) (add (P.sym sign) text.old)) }
 {
     put_symbol(text, sign)?;
     put_operand(text, of, 0)?;
@@ -86,34 +88,9 @@ fn put_unary(text: &mut Bytes, sign: Symbol, of: &Expr) -> Result<(), Memory>
 /// `cur` or `pad`, and a field of it.
 #[cycle(expr)]
 pub(super) fn put_field(text: &mut Bytes, owner: Keyword, field: &FieldUse) -> Result<(), Memory>
-    ensures { OnOk result (text.new ≡ add_use (used field.now).0 (used field.now).1 (add (P.key owner) text.old)) }
+    ensures { OnOk result (text.new ≡ add_all (use_kinds (used field.now)) (add (P.sym Symbol.Dot) (add (P.key owner) text.old))) }
 {
     put_keyword(text, owner)?;
-    put_use(text, field)?;
-    Ok(())
-}
-
-/// An expression where none looser than a level may stand without parentheses.
-#[cycle(expr)]
-fn put_operand(text: &mut Bytes, e: &Expr, loosest: usize) -> Result<(), Memory>
-    ensures { OnOk result (text.new ≡ within (nat_lt loosest (P.level_of (ex e.now))) (add_expr (ex e.now)) text.old) }
-{
-    if loosest < level_of(e) {
-        put_symbol(text, Symbol::OpenRound)?;
-        put_expr(text, e)?;
-        put_symbol(text, Symbol::CloseRound)?;
-        Ok(())
-    } else {
-        put_expr(text, e)?;
-        Ok(())
-    }
-}
-
-/// The use of a field behind `cur` or `pad`.
-#[cycle(expr)]
-fn put_use(text: &mut Bytes, field: &FieldUse) -> Result<(), Memory>
-    ensures { OnOk result (text.new ≡ add_use (used field.now).0 (used field.now).1 text.old) }
-{
     put_symbol(text, Symbol::Dot)?;
     put_name(text, &field.name)?;
     match &field.index {
@@ -124,5 +101,21 @@ fn put_use(text: &mut Bytes, field: &FieldUse) -> Result<(), Memory>
             put_symbol(text, Symbol::CloseSquare)?;
             Ok(())
         }
+    }
+}
+
+/// An expression where none looser than a level may stand without parentheses.
+#[cycle(expr)]
+fn put_operand(text: &mut Bytes, e: &Expr, loosest: usize) -> Result<(), Memory>
+    ensures { OnOk result (text.new ≡ add_all (P.in_parentheses loosest (P.level_of (ex e.now)) (P.expr_kinds (ex e.now))) text.old) }
+{
+    if loosest < level_of(e) {
+        put_symbol(text, Symbol::OpenRound)?;
+        put_expr(text, e)?;
+        put_symbol(text, Symbol::CloseRound)?;
+        Ok(())
+    } else {
+        put_expr(text, e)?;
+        Ok(())
     }
 }

@@ -1,9 +1,11 @@
 // Statements and blocks.
 
+#![tactic(auto, using(crate::proofs::Printing::all_append))]
+
 ghost use Rattle.std.specs.Prelude.{◌≡◌, OnOk};
 ghost use Rattle.iter_syntax.specs.Tree.{ex, used, st, sts, end};
 ghost use Rattle.iter_syntax.specs.Printed as P;
-ghost use Rattle.iter_syntax.specs.Steps.Printing.{add, add_expr, add_use, add_value, add_range, add_stmts, add_block};
+ghost use Rattle.iter_syntax.specs.Steps.Printing.{add, add_all, use_kinds, given, range_kinds};
 
 use super::expr::{put_expr, put_field};
 use super::text::{put_keyword, put_name, put_number, put_symbol};
@@ -13,7 +15,7 @@ use pulse_base::{Bytes, Memory};
 
 /// `= value ;`
 fn put_value(text: &mut Bytes, value: &Expr) -> Result<(), Memory>
-    ensures { OnOk result (text.new ≡ add_value (ex value.now) text.old) }
+    ensures { OnOk result (text.new ≡ add_all (given (ex value.now)) text.old) }
 {
     put_symbol(text, Symbol::Assign)?;
     put_expr(text, value)?;
@@ -22,7 +24,7 @@ fn put_value(text: &mut Bytes, value: &Expr) -> Result<(), Memory>
 
 /// `name = value ;`
 fn put_set(text: &mut Bytes, name: &Word, value: &Expr) -> Result<(), Memory>
-    ensures { OnOk result (text.new ≡ add_value (ex value.now) (add (P.word name.now) text.old)) }
+    ensures { OnOk result (text.new ≡ add_all (given (ex value.now)) (add (P.word name.now) text.old)) }
 {
     put_name(text, name)?;
     put_value(text, value)?;
@@ -36,7 +38,7 @@ fn put_store(
     target: &FieldUse,
     value: &Expr,
 ) -> Result<(), Memory>
-    ensures { OnOk result (text.new ≡ add_value (ex value.now) (add_use (used target.now).0 (used target.now).1 (add (P.key owner) text.old))) }
+    ensures { OnOk result (text.new ≡ add_all (given (ex value.now)) (add_all (use_kinds (used target.now)) (add (P.sym Symbol.Dot) (add (P.key owner) text.old)))) }
 {
     put_field(text, owner, target)?;
     put_value(text, value)?;
@@ -54,7 +56,7 @@ fn put_done(text: &mut Bytes) -> Result<(), Memory>
 
 /// `go to ;`
 fn put_go(text: &mut Bytes, to: &Expr) -> Result<(), Memory>
-    ensures { OnOk result (text.new ≡ add (P.sym Symbol.Semicolon) (add_expr (ex to.now) (add (P.key Keyword.Go) text.old))) }
+    ensures { OnOk result (text.new ≡ add (P.sym Symbol.Semicolon) (add_all (P.expr_kinds (ex to.now)) (add (P.key Keyword.Go) text.old))) }
 {
     put_keyword(text, Keyword::Go)?;
     put_expr(text, to)?;
@@ -64,7 +66,7 @@ fn put_go(text: &mut Bytes, to: &Expr) -> Result<(), Memory>
 
 /// `for name in first .. past`
 fn put_range(text: &mut Bytes, name: &Word, first: u64, past: u64) -> Result<(), Memory>
-    ensures { OnOk result (text.new ≡ add_range name.now first past text.old) }
+    ensures { OnOk result (text.new ≡ add_all (range_kinds name.now first past) text.old) }
 {
     put_keyword(text, Keyword::For)?;
     put_name(text, name)?;
@@ -77,7 +79,7 @@ fn put_range(text: &mut Bytes, name: &Word, first: u64, past: u64) -> Result<(),
 
 #[cycle(stmt)]
 fn put_stmt(text: &mut Bytes, s: &Stmt) -> Result<(), Memory>
-    ensures { OnOk result (text.new ≡ add_stmts (st s.now end) text.old) }
+    ensures { OnOk result (text.new ≡ add_all (P.stmt_kinds (st s.now end)) text.old) }
 {
     match s {
         Stmt::Let { name, value, .. } => {
@@ -120,7 +122,7 @@ fn put_stmt(text: &mut Bytes, s: &Stmt) -> Result<(), Memory>
 /// `{ statements }`
 #[cycle(stmt)]
 pub(super) fn put_block(text: &mut Bytes, block: &Block) -> Result<(), Memory>
-    ensures { OnOk result (text.new ≡ add_block block.now text.old) }
+    ensures { OnOk result (text.new ≡ add_all (P.block_kinds block.now) text.old) }
 {
     put_symbol(text, Symbol::OpenBrace)?;
     put_row(text, block.stmts.as_slice())?;
@@ -130,7 +132,7 @@ pub(super) fn put_block(text: &mut Bytes, block: &Block) -> Result<(), Memory>
 
 #[cycle(stmt)]
 fn put_row(text: &mut Bytes, stmts: &[Stmt]) -> Result<(), Memory>
-    ensures { OnOk result (text.new ≡ add_stmts (sts stmts.now) text.old) }
+    ensures { OnOk result (text.new ≡ add_all (P.stmt_kinds (sts stmts.now)) text.old) }
 {
     'row: for s in stmts {
         put_stmt(text, s)?;
