@@ -1,9 +1,6 @@
 -- What expressions and uses of fields are as plain trees, by their constructors.
 use Rattle.std.proofs.Common.{rules, ◌≡◌, ℕ, Option, option_map}
-use Rattle.iter_syntax.specs.declared.tree.Place.{Place}
-use Rattle.iter_syntax.specs.declared.tree.Word.{Word}
-use Rattle.iter_syntax.specs.declared.tree.BinaryOp.{BinaryOp}
-use Rattle.iter_syntax.specs.declared.tree.FieldUse.{FieldUse}
+use Rattle.iter_syntax.specs.Names.{Place, Word, BinaryOp, FieldUse}
 use Rattle.iter_syntax.specs.declared.tree.Expr.{Expr, the_lemmas}
 use Rattle.iter_syntax.specs.declared.tree.Expr.TheVariants as E
 use Rattle.iter_syntax.specs.Tree.{num, null, name, cur, not, flip, bin, at, ex, used, cur_use, pad_use}

@@ -1,10 +1,6 @@
 -- What statements and blocks are as plain trees, by their constructors.
 use Rattle.std.proofs.Common.{rules, ◌≡◌, ℕ, List, [], ◌∷◌, Option, option_map, map, refl, ap, ◌∙◌}
-use Rattle.iter_syntax.specs.declared.tree.Place.{Place}
-use Rattle.iter_syntax.specs.declared.tree.Word.{Word}
-use Rattle.iter_syntax.specs.declared.tree.FieldUse.{FieldUse}
-use Rattle.iter_syntax.specs.declared.tree.Expr.{Expr}
-use Rattle.iter_syntax.specs.declared.tree.Block.{Block}
+use Rattle.iter_syntax.specs.Names.{Place, Word, FieldUse, Expr, Block}
 use Rattle.iter_syntax.specs.declared.tree.Stmt.{Stmt, the_lemmas}
 use Rattle.iter_syntax.specs.declared.tree.Stmt.TheVariants as T
 use Rattle.iter_syntax.specs.declared.tree.Stmt.TheFolds.{fold_out-Block}

@@ -1,13 +1,9 @@
 -- What a token that passes a test is.
 use Rattle.std.specs.Prelude.{slice_get}
 use Rattle.std.proofs.Common.{◌≡◌, ℕ, Bool, true, false, ◌&&◌, nat_eq, List, [], ◌∷◌, Option, Some, None, refl, sym, ap, ◌∙◌, arith}
-use Rattle.iter_syntax.specs.declared.tree.Place.{Place}
-use Rattle.iter_syntax.specs.declared.tree.BinaryOp.{BinaryOp}
+use Rattle.iter_syntax.specs.Names.{Place, BinaryOp, TokenKind, Keyword, Symbol}
 use Rattle.iter_syntax.specs.declared.tree.BinaryOp.TheVariants as B
-use Rattle.iter_syntax.specs.declared.token.TokenKind.{TokenKind}
 use Rattle.iter_syntax.specs.declared.token.TokenKind.TheVariants as K
-use Rattle.iter_syntax.specs.declared.token.Keyword.{Keyword}
-use Rattle.iter_syntax.specs.declared.token.Symbol.{Symbol}
 use Rattle.iter_syntax.specs.declared.token.Symbol.TheVariants as S
 use Rattle.iter_syntax.specs.Deep.{depth_after}
 use Rattle.iter_syntax.specs.Kinds.{keyword_number, symbol_number, kind_is_keyword, kind_is_symbol, kind_is_name, kind_is_number, kind_is_next, is_next_text, kind_operator, has_level}

@@ -1,7 +1,6 @@
 -- The kinds of tokens, their places aside, and the kinds that some bytes spell.
 use Rattle.std.proofs.Common.{◌≡◌, ℕ, List, [], ◌∷◌, ◌++◌, refl, ap}
-use Rattle.iter_syntax.specs.declared.token.Token.{Token}
-use Rattle.iter_syntax.specs.declared.token.TokenKind.{TokenKind}
+use Rattle.iter_syntax.specs.Names.{Token, TokenKind}
 use Rattle.iter_syntax.specs.Spelling.{Spells}
 use Rattle.iter_syntax.specs.Printed.{Kinds}
 

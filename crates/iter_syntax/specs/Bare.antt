@@ -1,12 +1,6 @@
 -- Programs with their places taken away, to compare them by their meaning alone.
 use Rattle.std.specs.Prelude.{◌≡◌, ℕ, List, map}
-use Rattle.iter_syntax.specs.declared.tree.Place.{Place}
-use Rattle.iter_syntax.specs.declared.tree.Word.{Word}
-use Rattle.iter_syntax.specs.declared.tree.FieldDecl.{FieldDecl}
-use Rattle.iter_syntax.specs.declared.tree.RecordDecl.{RecordDecl}
-use Rattle.iter_syntax.specs.declared.tree.Arg.{Arg}
-use Rattle.iter_syntax.specs.declared.tree.Iter.{Iter}
-use Rattle.iter_syntax.specs.declared.tree.Program.{Program}
+use Rattle.iter_syntax.specs.Names.{Place, Word, FieldDecl, RecordDecl, Arg, Iter, Program}
 use Rattle.iter_syntax.specs.Tree.{Ex, num, null, name, cur, cur_field, cur_item, pad_field, pad_item, not, flip, bin, at, Sts, end, bind, set, set_pad, set_pad_item, set_cur, set_cur_item, when, choose, loop, done, go, block}
 use Rattle.iter_syntax.specs.Parsed.{IsProgramOf}
 use Rattle.iter_syntax.specs.Printed.{printed}

@@ -1,9 +1,8 @@
 -- Where brackets or statements grow past the bounds that keep the parser's recursion small.
 use Rattle.std.specs.Prelude.{ℕ, ◌+◌, ◌-◌, Bool, true, false, ◌||◌, nat_lt, cond, List, [], ◌∷◌, Option, Some, None}
 use Rattle.iter_syntax.specs.declared.token.Symbol.TheVariants as S
-use Rattle.iter_syntax.specs.declared.token.TokenKind.{TokenKind}
+use Rattle.iter_syntax.specs.Names.{TokenKind, Token}
 use Rattle.iter_syntax.specs.declared.token.TokenKind.TheVariants as T
-use Rattle.iter_syntax.specs.declared.token.Token.{Token}
 
 -- how many brackets of any kind are open after a token
 abbrev pub depth_after : ℕ → TokenKind → ℕ

@@ -2,7 +2,7 @@
 -- those that may go on with a whole one, and whether nothing is a whole one.
 -- What a form means is its grammar alone.
 use Rattle.std.specs.Prelude.{Bool, true, false, if◌then◌else◌, ◌||◌, List, Option}
-use Rattle.iter_syntax.specs.declared.token.Token.{Token}
+use Rattle.iter_syntax.specs.Names.{Token}
 use Rattle.iter_syntax.specs.Grammar.{Grammar, token, pair, value, many, optional, either, nothing}
 use Rattle.iter_syntax.specs.Steps.Parsers.{Parser, Stuck, read_token, read_pair, read_value, read_many, read_optional, read_either}
 

@@ -1,6 +1,6 @@
 -- Grammars over tokens: which token lists are whole forms, with their values, and which begin one.
 use Rattle.std.specs.Prelude.{◌≡◌, Bool, true, List, [], ◌∷◌, ◌++◌, ◌⊎◌, Option, Some, None}
-use Rattle.iter_syntax.specs.declared.token.Token.{Token}
+use Rattle.iter_syntax.specs.Names.{Token}
 
 pub record Grammar (A : Type 0) : Type 1 where
   pub whole : List Token → A → Type 0

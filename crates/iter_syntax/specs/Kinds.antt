@@ -1,12 +1,8 @@
 -- The kinds of tokens that the grammar names.
 use Rattle.std.specs.Prelude.{ℕ, Bool, true, false, ◌&&◌, nat_eq, List, [], ◌∷◌, Option, Some, None}
-use Rattle.iter_syntax.specs.declared.tree.BinaryOp.{BinaryOp}
-use Rattle.iter_syntax.specs.declared.token.Token.{Token}
-use Rattle.iter_syntax.specs.declared.token.TokenKind.{TokenKind}
+use Rattle.iter_syntax.specs.Names.{BinaryOp, Token, TokenKind, Keyword, Symbol}
 use Rattle.iter_syntax.specs.declared.token.TokenKind.TheVariants as K
-use Rattle.iter_syntax.specs.declared.token.Keyword.{Keyword}
 use Rattle.iter_syntax.specs.declared.token.Keyword.TheVariants as W
-use Rattle.iter_syntax.specs.declared.token.Symbol.{Symbol}
 use Rattle.iter_syntax.specs.declared.token.Symbol.TheVariants as S
 use Rattle.iter_syntax.specs.Operators.{level_of_operator, symbol_operator}
 

@@ -1,4 +1,5 @@
 -- What is to be believed: all but Steps.
+pub mod Names
 pub mod Tree
 pub mod Operators
 pub mod Kinds

@@ -1,8 +1,7 @@
 -- The binary operators: the level and the symbol of each.
 use Rattle.std.specs.Prelude.{ℕ, Option, Some, None}
-use Rattle.iter_syntax.specs.declared.tree.BinaryOp.{BinaryOp}
+use Rattle.iter_syntax.specs.Names.{BinaryOp, Symbol}
 use Rattle.iter_syntax.specs.declared.tree.BinaryOp.TheVariants as B
-use Rattle.iter_syntax.specs.declared.token.Symbol.{Symbol}
 use Rattle.iter_syntax.specs.declared.token.Symbol.TheVariants as S
 
 -- the level of an operator, from 1, the tightest, to 7

@@ -1,9 +1,7 @@
 -- The program of a text, and what `parse` answers of it.
 use Rattle.std.specs.Prelude.{◌≡◌, ◌⊎◌, ℕ, List, length, slice_get, Option, Some, None, Result, Ok, Err}
-use Rattle.iter_syntax.specs.declared.fault.SyntaxFault.{SyntaxFault}
+use Rattle.iter_syntax.specs.Names.{SyntaxFault, Token, Program}
 use Rattle.iter_syntax.specs.declared.fault.SyntaxFault.TheVariants as F
-use Rattle.iter_syntax.specs.declared.token.Token.{Token}
-use Rattle.iter_syntax.specs.declared.tree.Program.{Program}
 use Rattle.iter_syntax.specs.Deep.{deep_place}
 use Rattle.iter_syntax.specs.Tokens.{AreTokens, IsLexPlace}
 use Rattle.iter_syntax.specs.Program.{IsProgram, StopsAt}

@@ -1,20 +1,10 @@
 -- The printed form of a program: its tokens in order, with parentheses only where the grouping needs them,
 -- each followed by a space, or by a line's end where it is `;`, `{` or `}`.
 use Rattle.std.specs.Prelude.{ℕ, ◌-◌, nat_eq, nat_lt, cond, List, [], ◌∷◌, ◌++◌, Option, Some, None, flat_map, decimal, if◌then◌else◌}
-use Rattle.iter_syntax.specs.declared.tree.Word.{Word}
-use Rattle.iter_syntax.specs.declared.tree.Width.{Width}
+use Rattle.iter_syntax.specs.Names.{Word, Width, FieldDecl, RecordDecl, Arg, Block, Iter, Program, TokenKind, Keyword, Symbol}
 use Rattle.iter_syntax.specs.declared.tree.Width.TheVariants as D
-use Rattle.iter_syntax.specs.declared.tree.FieldDecl.{FieldDecl}
-use Rattle.iter_syntax.specs.declared.tree.RecordDecl.{RecordDecl}
-use Rattle.iter_syntax.specs.declared.tree.Arg.{Arg}
-use Rattle.iter_syntax.specs.declared.tree.Block.{Block}
-use Rattle.iter_syntax.specs.declared.tree.Iter.{Iter}
-use Rattle.iter_syntax.specs.declared.tree.Program.{Program}
-use Rattle.iter_syntax.specs.declared.token.TokenKind.{TokenKind}
 use Rattle.iter_syntax.specs.declared.token.TokenKind.TheVariants as K
-use Rattle.iter_syntax.specs.declared.token.Keyword.{Keyword}
 use Rattle.iter_syntax.specs.declared.token.Keyword.TheVariants as W
-use Rattle.iter_syntax.specs.declared.token.Symbol.{Symbol}
 use Rattle.iter_syntax.specs.declared.token.Symbol.TheVariants as S
 use Rattle.iter_syntax.specs.Tree.{Ex, num, null, name, cur, cur_field, cur_item, pad_field, pad_item, not, flip, bin, at, Sts, end, bind, set, set_pad, set_pad_item, set_cur, set_cur_item, when, choose, loop, done, go, block}
 use Rattle.iter_syntax.specs.Productions.{Decl, a_record, an_iter}

@@ -2,29 +2,13 @@
 -- A number after a production's name bounds how deep expressions or blocks stand in one another.
 -- `framed` gives a form sets for its parser (`Steps/Sets.antt`), and leaves its grammar.
 use Rattle.std.specs.Prelude.{ℕ, zero, suc, Bool, true, false, nat_eq, List, [], ◌∷◌, Option, Some, None}
-use Rattle.iter_syntax.specs.declared.tree.Place.{Place}
-use Rattle.iter_syntax.specs.declared.tree.Word.{Word}
-use Rattle.iter_syntax.specs.declared.tree.BinaryOp.{BinaryOp}
+use Rattle.iter_syntax.specs.Names.{Place, Word, BinaryOp, FieldUse, Expr, Block, Stmt, Width, FieldDecl, RecordDecl, Arg, Iter, Program, Token, TokenKind, Keyword, Symbol}
 use Rattle.iter_syntax.specs.declared.tree.BinaryOp.TheVariants as B
-use Rattle.iter_syntax.specs.declared.tree.FieldUse.{FieldUse}
-use Rattle.iter_syntax.specs.declared.tree.Expr.{Expr}
 use Rattle.iter_syntax.specs.declared.tree.Expr.TheVariants as E
-use Rattle.iter_syntax.specs.declared.tree.Block.{Block}
-use Rattle.iter_syntax.specs.declared.tree.Stmt.{Stmt}
 use Rattle.iter_syntax.specs.declared.tree.Stmt.TheVariants as T
-use Rattle.iter_syntax.specs.declared.tree.Width.{Width}
 use Rattle.iter_syntax.specs.declared.tree.Width.TheVariants as D
-use Rattle.iter_syntax.specs.declared.tree.FieldDecl.{FieldDecl}
-use Rattle.iter_syntax.specs.declared.tree.RecordDecl.{RecordDecl}
-use Rattle.iter_syntax.specs.declared.tree.Arg.{Arg}
-use Rattle.iter_syntax.specs.declared.tree.Iter.{Iter}
-use Rattle.iter_syntax.specs.declared.tree.Program.{Program}
-use Rattle.iter_syntax.specs.declared.token.Token.{Token}
-use Rattle.iter_syntax.specs.declared.token.TokenKind.{TokenKind}
 use Rattle.iter_syntax.specs.declared.token.TokenKind.TheVariants as K
-use Rattle.iter_syntax.specs.declared.token.Keyword.{Keyword}
 use Rattle.iter_syntax.specs.declared.token.Keyword.TheVariants as W
-use Rattle.iter_syntax.specs.declared.token.Symbol.{Symbol}
 use Rattle.iter_syntax.specs.declared.token.Symbol.TheVariants as S
 use Rattle.iter_syntax.specs.Kinds.{is_keyword, is_symbol, is_name, is_next, is_number, is_operator, kind_operator}
 use Rattle.iter_syntax.specs.Steps.Sets.{begins_expr, goes_on, follows_expr, begins_stmt, no_kind, begins_decl}

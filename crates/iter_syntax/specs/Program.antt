@@ -1,7 +1,6 @@
 -- Which program a token list is, which token lists begin one, and where one that is none stops being a beginning.
 use Rattle.std.specs.Prelude.{◌≡◌, ◌≤◌, ℕ, List, [], ◌∷◌, ◌++◌, length, take, slice_get, Some}
-use Rattle.iter_syntax.specs.declared.token.Token.{Token}
-use Rattle.iter_syntax.specs.declared.tree.Program.{Program}
+use Rattle.iter_syntax.specs.Names.{Token, Program}
 use Rattle.iter_syntax.specs.Productions.{program}
 
 -- the tokens are this program, whose expressions and blocks may stand as deep in one another as they like

@@ -1,8 +1,7 @@
 -- The tokens of a text, and the first place where none begins.
 use Rattle.std.specs.Prelude.{◌≡◌, ℕ, ◌+◌, ◌<◌, Bool, true, false, ◌==◌, ◌||◌, not, List, [], ◌∷◌, ◌++◌, length}
 use Rattle.std.specs.List.{list_all}
-use Rattle.iter_syntax.specs.declared.token.Token.{Token}
-use Rattle.iter_syntax.specs.declared.token.TokenKind.{TokenKind}
+use Rattle.iter_syntax.specs.Names.{Token, TokenKind}
 use Rattle.iter_syntax.specs.Bytes.{is_separator}
 use Rattle.iter_syntax.specs.Spelling.{Spells, first_is, Ends}
 

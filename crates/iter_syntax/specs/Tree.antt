@@ -1,15 +1,9 @@
 -- Expressions and statement lists as plain trees, and what the types of the code mean as such.
 -- The definitions of the language's meaning and faults go by these trees.
 use Rattle.std.specs.Prelude.{ℕ, List, [], ◌∷◌, Option, Some, None}
-use Rattle.iter_syntax.specs.declared.tree.Place.{Place}
-use Rattle.iter_syntax.specs.declared.tree.Word.{Word}
-use Rattle.iter_syntax.specs.declared.tree.BinaryOp.{BinaryOp}
-use Rattle.iter_syntax.specs.declared.tree.FieldUse.{FieldUse}
-use Rattle.iter_syntax.specs.declared.tree.Expr.{Expr}
+use Rattle.iter_syntax.specs.Names.{Place, Word, BinaryOp, FieldUse, Expr, Block, Stmt}
 use Rattle.iter_syntax.specs.declared.tree.Expr.TheOpen as O
 use Rattle.iter_syntax.specs.declared.tree.Expr.TheFolds.{fold-Expr, fold-FieldUse}
-use Rattle.iter_syntax.specs.declared.tree.Block.{Block}
-use Rattle.iter_syntax.specs.declared.tree.Stmt.{Stmt}
 use Rattle.iter_syntax.specs.declared.tree.Stmt.TheOpen as S
 use Rattle.iter_syntax.specs.declared.tree.Stmt.TheFolds.{fold-Stmt, fold-Block}
 

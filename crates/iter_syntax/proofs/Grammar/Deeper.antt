@@ -1,12 +1,8 @@
 -- A form that may stand deeper is the same for token lists that are short enough.
 use Rattle.std.proofs.Common.{◌≡◌, ℕ, zero, suc, ◌<◌, ◌≤◌, Bool, true, false, nat_eq, List, [], ◌∷◌, length, sym, ap, subst, ◌⊎◌, inl, inr, arith, length-append, Option, Some, None}
-use Rattle.iter_syntax.specs.declared.token.Token.{Token}
-use Rattle.iter_syntax.specs.declared.token.Keyword.{Keyword}
+use Rattle.iter_syntax.specs.Names.{Token, Keyword, Symbol, Expr, Block}
 use Rattle.iter_syntax.specs.declared.token.Keyword.TheVariants as W
-use Rattle.iter_syntax.specs.declared.token.Symbol.{Symbol}
 use Rattle.iter_syntax.specs.declared.token.Symbol.TheVariants as S
-use Rattle.iter_syntax.specs.declared.tree.Expr.{Expr}
-use Rattle.iter_syntax.specs.declared.tree.Block.{Block}
 use Rattle.iter_syntax.specs.Grammar.{Grammar, token, pair, value, row, many, optional, whole_or_nothing, either, nothing}
 use Rattle.iter_syntax.specs.Form.{Form, both}
 use Rattle.iter_syntax.specs.Steps.Parsers.{Reading, Read, Stuck}

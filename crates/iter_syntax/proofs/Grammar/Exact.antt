@@ -1,6 +1,6 @@
 -- A parser that looks one token ahead answers by its grammar: one token, a pair, another value.
 use Rattle.std.proofs.Common.{◌≡◌, ℕ, ◌≤◌, Bool, true, false, ◌||◌, if◌then◌else◌, [], ◌∷◌, ◌++◌, length, refl, sym, ap, ◌∙◌, subst, ◌⊎◌, inl, inr, arith, append_assoc, append-nil, length-append}
-use Rattle.iter_syntax.specs.declared.token.Token.{Token}
+use Rattle.iter_syntax.specs.Names.{Token}
 use Rattle.iter_syntax.specs.Grammar.{Grammar, token, pair, value}
 use Rattle.iter_syntax.specs.Steps.Parsers.{Reading, Read, Stuck, bind, Parser, read_token, read_pair, read_value, at_first}
 use Rattle.iter_syntax.proofs.Grammar.Splits.{Tokens, Within, splits}

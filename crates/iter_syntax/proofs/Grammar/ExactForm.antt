@@ -1,6 +1,6 @@
 -- The same of forms.
 use Rattle.std.proofs.Common.{◌≡◌, ◌≤◌, Bool, true, false, [], ◌++◌, length, refl, sym, subst, arith}
-use Rattle.iter_syntax.specs.declared.token.Token.{Token}
+use Rattle.iter_syntax.specs.Names.{Token}
 use Rattle.iter_syntax.specs.Form.{Form, one, both, gives, any, maybe, or, framed, none}
 use Rattle.iter_syntax.proofs.Grammar.Exact.{Exact, nil_left, token_right, then_right, value_right}
 use Rattle.iter_syntax.proofs.Grammar.ExactMany.{many_right}

@@ -1,6 +1,6 @@
 -- Any number of a form, read as long as one begins.
 use Rattle.std.proofs.Common.{◌≡◌, ℕ, zero, suc, ◌≤◌, Bool, true, false, ◌||◌, if◌then◌else◌, List, [], ◌∷◌, ◌++◌, length, refl, sym, ap, ◌∙◌, subst, ◌⊎◌, inl, inr, arith, append_assoc, append-nil, length-append}
-use Rattle.iter_syntax.specs.declared.token.Token.{Token}
+use Rattle.iter_syntax.specs.Names.{Token}
 use Rattle.iter_syntax.specs.Grammar.{Grammar, row, many}
 use Rattle.iter_syntax.specs.Steps.Parsers.{Reading, Read, Stuck, bind, Parser, at_first, read_up_to, read_many}
 use Rattle.iter_syntax.proofs.Grammar.Splits.{Tokens, Within, splits}

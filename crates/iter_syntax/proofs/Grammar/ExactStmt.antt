@@ -1,8 +1,6 @@
 -- Each production of statements and blocks is exact.
 use Rattle.std.proofs.Common.{◌≡◌, ℕ, zero, suc, true, false, refl}
-use Rattle.iter_syntax.specs.declared.tree.Expr.{Expr}
-use Rattle.iter_syntax.specs.declared.token.Token.{Token}
-use Rattle.iter_syntax.specs.declared.token.Keyword.{Keyword}
+use Rattle.iter_syntax.specs.Names.{Expr, Token, Keyword}
 use Rattle.iter_syntax.specs.declared.token.Keyword.TheVariants as W
 use Rattle.iter_syntax.specs.declared.token.Symbol.TheVariants as S
 use Rattle.iter_syntax.specs.Kinds.{is_symbol, is_keyword}

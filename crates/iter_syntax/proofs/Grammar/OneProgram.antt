@@ -1,10 +1,8 @@
 -- A text has at most one program or one fault, and not both.
 use Rattle.std.specs.Prelude.{slice_get}
 use Rattle.std.proofs.Common.{◌≡◌, ℕ, ◌+◌, List, [], length, refl, sym, ap, ◌∙◌, subst, ◌⊎◌, inl, inr, Some, None, Result, Ok, Err}
-use Rattle.iter_syntax.specs.declared.fault.SyntaxFault.{SyntaxFault}
+use Rattle.iter_syntax.specs.Names.{SyntaxFault, Token, Program}
 use Rattle.iter_syntax.specs.declared.fault.SyntaxFault.TheVariants as F
-use Rattle.iter_syntax.specs.declared.token.Token.{Token}
-use Rattle.iter_syntax.specs.declared.tree.Program.{Program}
 use Rattle.iter_syntax.specs.Steps.Parsers.{Read}
 use Rattle.iter_syntax.specs.Deep.{deep_place}
 use Rattle.iter_syntax.specs.Steps.Reading.{TokensAnswer, HasOneReading}

@@ -1,7 +1,7 @@
 -- A token list stops being a beginning of a program at one place at most.
 use Rattle.std.specs.Prelude.{slice_get}
 use Rattle.std.proofs.Common.{◌≡◌, ℕ, zero, suc, ◌<◌, ◌≤◌, [], ◌∷◌, ◌++◌, length, take, Some, refl, ap, subst, arith}
-use Rattle.iter_syntax.specs.declared.token.Token.{Token}
+use Rattle.iter_syntax.specs.Names.{Token}
 use Rattle.iter_syntax.specs.Program.{BeginsProgram, StopsAt}
 use Rattle.iter_syntax.proofs.Grammar.Splits.{Tokens}
 use Rattle.iter_syntax.proofs.Grammar.ExactDecl.{program_ok}

@@ -1,6 +1,6 @@
 -- Of two splits of a list, one begins the other.
 use Rattle.std.proofs.Common.{◌≡◌, List, [], ◌∷◌, ◌++◌, refl, sym, ◌⊎◌, inl, inr}
-use Rattle.iter_syntax.specs.declared.token.Token.{Token}
+use Rattle.iter_syntax.specs.Names.{Token}
 
 abbrev pub Tokens : Type 0
 Tokens = List Token

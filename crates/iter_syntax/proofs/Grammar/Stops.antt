@@ -1,6 +1,6 @@
 -- The whole of a token list, and the exact place of its fault.
 use Rattle.std.proofs.Common.{◌≡◌, Bool, [], ◌∷◌, ◌++◌, length, refl, sym, ap, ◌∙◌, subst, arith, append_assoc, append-nil}
-use Rattle.iter_syntax.specs.declared.token.Token.{Token}
+use Rattle.iter_syntax.specs.Names.{Token}
 use Rattle.iter_syntax.specs.Grammar.{Grammar}
 use Rattle.iter_syntax.specs.Steps.Parsers.{Reading, Read, Stuck, Parser}
 use Rattle.iter_syntax.proofs.Grammar.Splits.{Tokens}

@@ -1,16 +1,10 @@
 -- How the reading functions take a level, a row or a depth apart.
 use Rattle.std.proofs.Common.{◌≡◌, ℕ, zero, suc, ◌-◌, ◌≤◌, Bool, true, false, nat_eq, List, [], ◌∷◌, ◌++◌, drop, refl, sym, ap, ◌∙◌, subst, arith, append_assoc, Result, Ok, Err}
-use Rattle.iter_syntax.specs.declared.tree.Place.{Place}
-use Rattle.iter_syntax.specs.declared.tree.BinaryOp.{BinaryOp}
-use Rattle.iter_syntax.specs.declared.tree.Expr.{Expr}
+use Rattle.iter_syntax.specs.Names.{Place, BinaryOp, Expr, Token, Block, RecordDecl, Iter}
 use Rattle.iter_syntax.specs.declared.tree.Expr.TheVariants as E
-use Rattle.iter_syntax.specs.declared.token.Token.{Token}
 use Rattle.iter_syntax.specs.declared.parser.reader.Refused.{Refused}
 use Rattle.iter_syntax.specs.declared.parser.reader.Refused.TheVariants.{At, Memory}
 use Rattle.iter_syntax.specs.declared.token.Keyword.TheVariants as W
-use Rattle.iter_syntax.specs.declared.tree.Block.{Block}
-use Rattle.iter_syntax.specs.declared.tree.RecordDecl.{RecordDecl}
-use Rattle.iter_syntax.specs.declared.tree.Iter.{Iter}
 use Rattle.iter_syntax.specs.Kinds.{is_operator, is_keyword}
 use Rattle.iter_syntax.specs.Form.{gives, Form, both, any}
 use Rattle.iter_syntax.specs.Steps.Parsers.{Parser, Reading, Read, Stuck, bind, at_first, read_many}

@@ -2,8 +2,7 @@
 use Rattle.std.specs.Prelude.{slice_get}
 use Rattle.std.proofs.Common.{◌≡◌, ℕ, ◌+◌, ◌<◌, ◌≤◌, zero, suc, [], ◌∷◌, ◌++◌, length, take, drop, Some, refl, sym, ap, ◌∙◌, subst, arith, length-append, length-drop}
 use Rattle.std.proofs.lemmas.Grind.{common_steps}
-use Rattle.iter_syntax.specs.declared.token.Token.{Token}
-use Rattle.iter_syntax.specs.declared.tree.Program.{Program}
+use Rattle.iter_syntax.specs.Names.{Token, Program}
 use Rattle.iter_syntax.specs.Steps.Parsers.{Read, Stuck}
 use Rattle.iter_syntax.specs.Productions.{program}
 use Rattle.iter_syntax.specs.Program.{IsProgram, StopsAt}

@@ -4,12 +4,9 @@ use Rattle.std.specs.Prelude.{Option}
 use Rattle.std.specs.Char.{is_ascii_lowercase, is_ascii_digit}
 use Rattle.std.proofs.Math.Seq.{take-append_seam, drop-append_seam}
 use Rattle.std.proofs.lemmas.Bool.Decides.{nat_tests}
-use Rattle.iter_syntax.specs.declared.token.Symbol.{Symbol}
+use Rattle.iter_syntax.specs.Names.{Symbol, Token, TokenKind, Front}
 use Rattle.iter_syntax.specs.declared.token.Symbol.TheVariants as S
-use Rattle.iter_syntax.specs.declared.token.Token.{Token}
-use Rattle.iter_syntax.specs.declared.token.TokenKind.{TokenKind}
 use Rattle.iter_syntax.specs.declared.token.TokenKind.TheVariants as T
-use Rattle.iter_syntax.specs.declared.tokens.front.Front.{Front}
 use Rattle.iter_syntax.specs.Spelling.{keyword_text, symbol_text, Spells, first_is}
 use Rattle.iter_syntax.specs.Steps.Reading.{gap_len, front_token}
 use Rattle.iter_syntax.specs.Tokens.{IsGap, BeginsWith, Leads, begins_gap, NoToken, IsLexPlace}

@@ -8,11 +8,8 @@ use Rattle.std.proofs.lemmas.Bool.{leb-true, le-leb, cond_both}
 use Rattle.std.proofs.lemmas.Bool.Decides.{nat_tests}
 use Rattle.std.proofs.lemmas.List.{take-append-drop}
 use Rattle.std.proofs.lemmas.List.Folds.{length-prefix_len}
-use Rattle.iter_syntax.specs.declared.token.Keyword.{Keyword}
-use Rattle.iter_syntax.specs.declared.token.Symbol.{Symbol}
-use Rattle.iter_syntax.specs.declared.token.TokenKind.{TokenKind}
+use Rattle.iter_syntax.specs.Names.{Keyword, Symbol, TokenKind, Front}
 use Rattle.iter_syntax.specs.declared.token.TokenKind.TheVariants as T
-use Rattle.iter_syntax.specs.declared.tokens.front.Front.{Front}
 use Rattle.iter_syntax.specs.Bytes.{in_word, in_run}
 use Rattle.iter_syntax.specs.Spelling.{keyword_text, keyword_of, symbol_text, symbol_of, is_word, number_of, Spells, first_is, goes_on_as_symbol, Ends}
 use Rattle.iter_syntax.specs.Steps.Reading.{named, word_kind, front_word, numbered, front_number, marked, longer, front_symbol, read_number, front_token}

@@ -3,8 +3,7 @@ use Rattle.std.proofs.Common.{◌≡◌, ℕ, ◌+◌, ◌-◌, ◌<◌, ◌≤�
 use Rattle.std.proofs.lemmas.List.{drop-drop}
 use Rattle.std.proofs.Math.Seq.{take-length, drop-append_seam}
 use Rattle.std.specs.Prelude.{Option, IfSome}
-use Rattle.iter_syntax.specs.declared.token.Token.{Token}
-use Rattle.iter_syntax.specs.declared.tokens.front.Front.{Front}
+use Rattle.iter_syntax.specs.Names.{Token, Front}
 use Rattle.iter_syntax.specs.Spelling.{first_is}
 use Rattle.iter_syntax.specs.Steps.Reading.{gap_len, front_token, HasRead}
 use Rattle.iter_syntax.specs.Tokens.{IsGap, BeginsWith, Leads, begins_gap, IsLexPlace}

@@ -3,7 +3,7 @@ use Rattle.std.proofs.Common.{◌≡◌, ℕ, ◌<◌, ◌≤◌, Bool, true, fa
 use Rattle.std.specs.Prelude.{find, bytes_eq, Option, IfSome, is_some}
 use Rattle.std.specs.Char.{is_ascii_lowercase, is_ascii_digit}
 use Rattle.std.proofs.lemmas.Slice.Eq.{bytes_eq-Decides}
-use Rattle.iter_syntax.specs.declared.token.Symbol.{Symbol}
+use Rattle.iter_syntax.specs.Names.{Symbol}
 use Rattle.iter_syntax.specs.declared.token.Symbol.TheVariants as S
 use Rattle.iter_syntax.specs.Spelling.{symbol_text, symbols, symbol_of, first_is, goes_on_as_symbol}
 use Rattle.iter_syntax.specs.Steps.Reading.{longer}

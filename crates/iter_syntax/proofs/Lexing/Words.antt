@@ -5,7 +5,7 @@ use Rattle.std.specs.List.{list_all}
 use Rattle.std.specs.Cmp.{first_so, second_so}
 use Rattle.std.specs.Char.{is_ascii_lowercase}
 use Rattle.std.proofs.lemmas.Slice.Eq.{bytes_eq-Decides}
-use Rattle.iter_syntax.specs.declared.token.Keyword.{Keyword}
+use Rattle.iter_syntax.specs.Names.{Keyword}
 use Rattle.iter_syntax.specs.declared.token.Keyword.TheVariants as K
 use Rattle.iter_syntax.specs.Bytes.{in_word}
 use Rattle.iter_syntax.specs.Spelling.{keyword_text, keywords, keyword_of, is_word, first_is}

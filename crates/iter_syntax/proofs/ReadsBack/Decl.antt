@@ -1,12 +1,7 @@
 -- The printed tokens of records and iterators are these again, places aside, where those of blocks are.
 use Rattle.std.proofs.Common.{◌≡◌, ℕ, Bool, true, false, if◌then◌else◌, List, [], ◌∷◌, ◌++◌, Option, Some, None, map, flat_map, refl, ap, append_assoc}
-use Rattle.iter_syntax.specs.declared.tree.Width.{Width}
+use Rattle.iter_syntax.specs.Names.{Width, FieldDecl, RecordDecl, Arg, Block, Iter}
 use Rattle.iter_syntax.specs.declared.tree.Width.TheVariants as D
-use Rattle.iter_syntax.specs.declared.tree.FieldDecl.{FieldDecl}
-use Rattle.iter_syntax.specs.declared.tree.RecordDecl.{RecordDecl}
-use Rattle.iter_syntax.specs.declared.tree.Arg.{Arg}
-use Rattle.iter_syntax.specs.declared.tree.Block.{Block}
-use Rattle.iter_syntax.specs.declared.tree.Iter.{Iter}
 use Rattle.iter_syntax.specs.declared.token.Keyword.TheVariants as W
 use Rattle.iter_syntax.specs.declared.token.Symbol.TheVariants as S
 use Rattle.iter_syntax.specs.Tree.{block}

@@ -1,10 +1,6 @@
 -- The printed tokens of an expression are that expression again, places aside.
 use Rattle.std.proofs.Common.{◌≡◌, ℕ, Bool, true, false, cond, nat_lt, [], ◌∷◌, ◌++◌, Option, Some, None, option_map, refl, ap, sym, append_assoc, arith}
-use Rattle.iter_syntax.specs.declared.tree.Place.{Place}
-use Rattle.iter_syntax.specs.declared.tree.Word.{Word}
-use Rattle.iter_syntax.specs.declared.tree.BinaryOp.{BinaryOp}
-use Rattle.iter_syntax.specs.declared.tree.FieldUse.{FieldUse}
-use Rattle.iter_syntax.specs.declared.tree.Expr.{Expr}
+use Rattle.iter_syntax.specs.Names.{Place, Word, BinaryOp, FieldUse, Expr}
 use Rattle.iter_syntax.specs.declared.tree.Expr.TheVariants as E
 use Rattle.iter_syntax.specs.declared.token.TokenKind.TheVariants as K
 use Rattle.iter_syntax.specs.declared.token.Keyword.TheVariants as W

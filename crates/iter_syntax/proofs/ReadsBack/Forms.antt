@@ -1,11 +1,7 @@
 -- Tokens of given kinds are a whole form, combinator by combinator.
 use Rattle.std.proofs.Common.{◌≡◌, ℕ, zero, suc, ◌+◌, ◌≤◌, Bool, true, List, [], ◌∷◌, ◌++◌, Option, Some, None, refl, ap, sym, ◌∙◌, inl, inr, arith, eq-eqb}
-use Rattle.iter_syntax.specs.declared.tree.Word.{Word}
-use Rattle.iter_syntax.specs.declared.token.Token.{Token}
-use Rattle.iter_syntax.specs.declared.token.TokenKind.{TokenKind}
+use Rattle.iter_syntax.specs.Names.{Word, Token, TokenKind, Keyword, Symbol}
 use Rattle.iter_syntax.specs.declared.token.TokenKind.TheVariants as K
-use Rattle.iter_syntax.specs.declared.token.Keyword.{Keyword}
-use Rattle.iter_syntax.specs.declared.token.Symbol.{Symbol}
 use Rattle.iter_syntax.specs.Grammar.{Grammar, token, pair, value, many, optional, either}
 use Rattle.iter_syntax.specs.Kinds.{kind_is_keyword, kind_is_symbol, kind_is_name, kind_is_number, kind_is_next, keyword_number, symbol_number, is_keyword, is_symbol, is_name, is_number, is_next}
 use Rattle.iter_syntax.specs.Productions as P

@@ -1,5 +1,5 @@
 -- The printed form of a text's program is a text that has that program.
-use Rattle.iter_syntax.specs.declared.tree.Program.{Program}
+use Rattle.iter_syntax.specs.Names.{Program}
 use Rattle.iter_syntax.specs.Printed.{program_kinds}
 use Rattle.iter_syntax.specs.Bare.{ReadsBack}
 use Rattle.iter_syntax.proofs.ReadsBack.ProgramFits.{program_fits}

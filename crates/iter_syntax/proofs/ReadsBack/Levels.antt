@@ -1,12 +1,9 @@
 -- What is whole at a level is so at a looser one, and a printed operator stands between operands of its levels.
 use Rattle.std.proofs.Common.{◌≡◌, ℕ, zero, suc, ◌≤◌, Bool, true, false, nat_eq, List, [], ◌∷◌, ◌++◌, Some, None, refl, sym, ap, ◌∙◌, subst, arith, append_assoc, append-nil, eq-eqb, inl, inr}
 use Rattle.std.proofs.Math.Nat.{le-suc_iff}
-use Rattle.iter_syntax.specs.declared.tree.Place.{Place}
-use Rattle.iter_syntax.specs.declared.tree.BinaryOp.{BinaryOp}
+use Rattle.iter_syntax.specs.Names.{Place, BinaryOp, Expr, Token}
 use Rattle.iter_syntax.specs.declared.tree.BinaryOp.TheVariants as B
-use Rattle.iter_syntax.specs.declared.tree.Expr.{Expr}
 use Rattle.iter_syntax.specs.declared.tree.Expr.TheVariants as E
-use Rattle.iter_syntax.specs.declared.token.Token.{Token}
 use Rattle.iter_syntax.specs.Kinds.{is_operator, has_level, kind_operator}
 use Rattle.iter_syntax.specs.Operators.{symbol_operator}
 use Rattle.iter_syntax.specs.Tree.{Ex, bin}

@@ -1,9 +1,6 @@
 -- The printed tokens of a program are that program again, places aside.
 use Rattle.std.proofs.Common.{◌≡◌, ℕ, nat_lt, Bool, true, false, cond, List, [], ◌∷◌, map, flat_map, refl, ap, ◌∙◌, arith}
-use Rattle.iter_syntax.specs.declared.token.Token.{Token}
-use Rattle.iter_syntax.specs.declared.tree.RecordDecl.{RecordDecl}
-use Rattle.iter_syntax.specs.declared.tree.Iter.{Iter}
-use Rattle.iter_syntax.specs.declared.tree.Program.{Program}
+use Rattle.iter_syntax.specs.Names.{Token, RecordDecl, Iter, Program}
 use Rattle.iter_syntax.specs.Program.{IsProgram}
 use Rattle.iter_syntax.specs.Tree.{block}
 use Rattle.iter_syntax.specs.Grammar.{many}

@@ -1,9 +1,6 @@
 -- What a program that a text has prints: tokens that are spelled and nowhere too deep.
 use Rattle.std.proofs.Common.{◌≡◌, ℕ, nat_lt, Bool, true, false, cond, List, [], ◌∷◌, ◌++◌, Some, None, flat_map, refl, ap, ap₂, ◌∙◌, subst, sym, arith}
-use Rattle.iter_syntax.specs.declared.token.Token.{Token}
-use Rattle.iter_syntax.specs.declared.tree.RecordDecl.{RecordDecl}
-use Rattle.iter_syntax.specs.declared.tree.Iter.{Iter}
-use Rattle.iter_syntax.specs.declared.tree.Program.{Program}
+use Rattle.iter_syntax.specs.Names.{Token, RecordDecl, Iter, Program}
 use Rattle.iter_syntax.specs.Grammar.{row}
 use Rattle.iter_syntax.specs.Productions as P
 use Rattle.iter_syntax.specs.Deep.{deep_place}

@@ -10,9 +10,8 @@ use Rattle.std.proofs.lemmas.Bool.Decides.{Decides-eqb}
 use Rattle.std.proofs.lemmas.Option.{cond_some}
 use Rattle.std.proofs.lemmas.Fmt.{decimal_is_IsNumeral}
 use Rattle.std.proofs.lemmas.Slice.Eq.{starts_is}
-use Rattle.iter_syntax.specs.declared.token.Symbol.{Symbol}
+use Rattle.iter_syntax.specs.Names.{Symbol, TokenKind}
 use Rattle.iter_syntax.specs.declared.token.Symbol.TheVariants as S
-use Rattle.iter_syntax.specs.declared.token.TokenKind.{TokenKind}
 use Rattle.iter_syntax.specs.declared.token.TokenKind.TheVariants as T
 use Rattle.iter_syntax.specs.Spelling.{symbol_text, symbol_of, is_numeral, numeral, number_of, Spells, goes_on_as_symbol, Ends}
 use Rattle.iter_syntax.specs.Printed.{spelling}

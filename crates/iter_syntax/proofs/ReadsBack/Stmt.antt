@@ -1,11 +1,6 @@
 -- The printed tokens of statements in a row are these again, places aside, where those of their expressions and blocks are.
 use Rattle.std.proofs.Common.{◌≡◌, ℕ, List, [], ◌∷◌, ◌++◌, Option, Some, None, option_map, refl, ap, sym, ◌∙◌, append_assoc, append-nil}
-use Rattle.iter_syntax.specs.declared.tree.Place.{Place}
-use Rattle.iter_syntax.specs.declared.tree.Word.{Word}
-use Rattle.iter_syntax.specs.declared.tree.Block.{Block}
-use Rattle.iter_syntax.specs.declared.tree.Stmt.{Stmt}
-use Rattle.iter_syntax.specs.declared.tree.Expr.{Expr}
-use Rattle.iter_syntax.specs.declared.token.Keyword.{Keyword}
+use Rattle.iter_syntax.specs.Names.{Place, Word, Block, Stmt, Expr, Keyword}
 use Rattle.iter_syntax.specs.declared.token.Keyword.TheVariants as W
 use Rattle.iter_syntax.specs.declared.token.Symbol.TheVariants as S
 use Rattle.iter_syntax.specs.Tree.{Ex, ex, used, Sts, end, bind, set, when, choose, loop, done, go, to_pad, to_cur, branch, st, sts, block}

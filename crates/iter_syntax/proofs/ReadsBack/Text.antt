@@ -1,6 +1,6 @@
 -- The text of spelled tokens, each with its separator, has just these tokens.
 use Rattle.std.proofs.Common.{◌≡◌, ℕ, ◌+◌, Bool, true, false, cond, List, [], ◌∷◌, ◌++◌, length, refl, ap, arith, length-append}
-use Rattle.iter_syntax.specs.declared.token.Token.{Token}
+use Rattle.iter_syntax.specs.Names.{Token}
 use Rattle.iter_syntax.specs.Bytes.{is_separator}
 use Rattle.iter_syntax.specs.Deep.{ends_stretch}
 use Rattle.iter_syntax.specs.Tokens.{IsGap, nothing, separator, Leads, AreTokens}

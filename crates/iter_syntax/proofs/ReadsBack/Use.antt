@@ -1,8 +1,6 @@
 -- The printed tokens of the use of a field are this use again, places aside, where those of its index are.
 use Rattle.std.proofs.Common.{◌≡◌, [], ◌∷◌, Option, Some, None, option_map, refl, ap, sym, subst}
-use Rattle.iter_syntax.specs.declared.tree.Word.{Word}
-use Rattle.iter_syntax.specs.declared.tree.FieldUse.{FieldUse}
-use Rattle.iter_syntax.specs.declared.tree.Expr.{Expr}
+use Rattle.iter_syntax.specs.Names.{Word, FieldUse, Expr}
 use Rattle.iter_syntax.specs.declared.token.Symbol.TheVariants as S
 use Rattle.iter_syntax.specs.Tree.{Ex, Used, ex, used}
 use Rattle.iter_syntax.specs.Form.{Form}

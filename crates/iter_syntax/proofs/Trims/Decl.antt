@@ -1,13 +1,9 @@
 -- The printed tokens of what tokens are a whole record or iterator of are these tokens without some parentheses.
 use Rattle.std.proofs.Common.{◌≡◌, ℕ, Bool, if◌then◌else◌, List, [], ◌∷◌, ◌++◌, Option, Some, None, flat_map, append_assoc, refl, sym, ap, ◌∙◌, subst, inl, inr}
-use Rattle.iter_syntax.specs.declared.token.Token.{Token}
+use Rattle.iter_syntax.specs.Names.{Token, Width, Arg, Iter, Block}
 use Rattle.iter_syntax.specs.declared.token.Keyword.TheVariants as W
 use Rattle.iter_syntax.specs.declared.token.Symbol.TheVariants as S
-use Rattle.iter_syntax.specs.declared.tree.Width.{Width}
 use Rattle.iter_syntax.specs.declared.tree.Width.TheVariants as D
-use Rattle.iter_syntax.specs.declared.tree.Arg.{Arg}
-use Rattle.iter_syntax.specs.declared.tree.Iter.{Iter}
-use Rattle.iter_syntax.specs.declared.tree.Block.{Block}
 use Rattle.iter_syntax.specs.Grammar.{Grammar, pair, value, either}
 use Rattle.iter_syntax.specs.Form.{Form}
 use Rattle.iter_syntax.specs.Productions as P

@@ -1,14 +1,10 @@
 -- The printed tokens of what tokens are a whole expression of are these tokens without some parentheses.
 use Rattle.std.proofs.Common.{◌≡◌, ℕ, zero, suc, List, ◌∷◌, Option, Some, None, option_map, refl, sym, ap, ◌∙◌, subst, inl, inr, arith}
-use Rattle.iter_syntax.specs.declared.token.Token.{Token}
+use Rattle.iter_syntax.specs.Names.{Token, Place, Word, FieldUse, Expr}
 use Rattle.iter_syntax.specs.declared.token.Keyword.TheVariants as W
 use Rattle.iter_syntax.specs.declared.token.Symbol.TheVariants as S
-use Rattle.iter_syntax.specs.declared.tree.Place.{Place}
-use Rattle.iter_syntax.specs.declared.tree.Word.{Word}
-use Rattle.iter_syntax.specs.declared.tree.FieldUse.{FieldUse}
-use Rattle.iter_syntax.specs.declared.tree.Expr.{Expr}
 use Rattle.iter_syntax.specs.declared.tree.Expr.TheVariants as E
-use Rattle.iter_syntax.specs.Tree.{Ex, cur_use, pad_use, Used, ex, used}
+use Rattle.iter_syntax.specs.Tree.{Ex, cur_use, pad_use, ex, used}
 use Rattle.iter_syntax.specs.Grammar.{Grammar, pair, value, either}
 use Rattle.iter_syntax.specs.Form.{Form}
 use Rattle.iter_syntax.specs.Productions as P

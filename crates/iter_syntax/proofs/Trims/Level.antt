@@ -1,10 +1,7 @@
 -- What tokens are a whole expression of a level of is printed as these tokens without some parentheses: operators and parentheses.
 use Rattle.std.proofs.Common.{◌≡◌, ℕ, zero, suc, ◌≤◌, Bool, true, false, cond, nat_eq, nat_lt, List, [], ◌∷◌, ◌++◌, Option, Some, None, append_assoc, append-nil, le_trans, le_refl, refl, sym, ap, ◌∙◌, subst, arith}
-use Rattle.iter_syntax.specs.declared.token.Token.{Token}
+use Rattle.iter_syntax.specs.Names.{Token, Place, BinaryOp, Expr}
 use Rattle.iter_syntax.specs.declared.token.Symbol.TheVariants as S
-use Rattle.iter_syntax.specs.declared.tree.Place.{Place}
-use Rattle.iter_syntax.specs.declared.tree.BinaryOp.{BinaryOp}
-use Rattle.iter_syntax.specs.declared.tree.Expr.{Expr}
 use Rattle.iter_syntax.specs.declared.tree.Expr.TheVariants as E
 use Rattle.iter_syntax.specs.Tree.{ex}
 use Rattle.iter_syntax.specs.Grammar.{Grammar, pair, row, many, optional, whole_or_nothing}

@@ -1,10 +1,7 @@
 -- Forms whose printed tokens are their own without some parentheses, part by part.
 use Rattle.std.proofs.Common.{◌≡◌, ℕ, Bool, true, List, [], ◌∷◌, ◌++◌, Option, Some, None, flat_map, append_assoc, refl, sym, ap, ◌∙◌, subst, inl, inr}
-use Rattle.iter_syntax.specs.declared.token.Token.{Token}
-use Rattle.iter_syntax.specs.declared.token.TokenKind.{TokenKind}
+use Rattle.iter_syntax.specs.Names.{Token, TokenKind, Keyword, Symbol}
 use Rattle.iter_syntax.specs.declared.token.TokenKind.TheVariants as K
-use Rattle.iter_syntax.specs.declared.token.Keyword.{Keyword}
-use Rattle.iter_syntax.specs.declared.token.Symbol.{Symbol}
 use Rattle.iter_syntax.specs.Deep.{depth_after}
 use Rattle.iter_syntax.specs.Kinds.{is_keyword, is_symbol, is_name, is_next, is_number, is_operator}
 use Rattle.iter_syntax.specs.Grammar.{Grammar, token, pair, value, row, many, optional, either}

@@ -1,8 +1,6 @@
 -- Open brackets and the tokens of a stretch along tokens: what comes from tokens in a row and between brackets.
 use Rattle.std.proofs.Common.{◌≡◌, ℕ, ◌+◌, ◌-◌, ◌≤◌, Bool, true, false, ◌||◌, nat_lt, cond, List, [], ◌∷◌, ◌++◌, Option, Some, None, refl, ap, ap₂, ◌∙◌, subst, sym as flip, ltb-false, le-ltb, arith}
-use Rattle.iter_syntax.specs.declared.token.Token.{Token}
-use Rattle.iter_syntax.specs.declared.token.TokenKind.{TokenKind}
-use Rattle.iter_syntax.specs.declared.token.Symbol.{Symbol}
+use Rattle.iter_syntax.specs.Names.{Token, TokenKind, Symbol}
 use Rattle.iter_syntax.specs.declared.token.Symbol.TheVariants as S
 use Rattle.iter_syntax.specs.Deep.{depth_after, ends_stretch, deep_from}
 use Rattle.iter_syntax.specs.Printed.{Kinds, between, sym}

@@ -1,14 +1,9 @@
 -- The printed tokens of what tokens are a whole statement or block of are these tokens without some parentheses.
 use Rattle.std.proofs.Common.{◌≡◌, ℕ, zero, suc, List, [], ◌∷◌, ◌++◌, Option, Some, None, option_map, flat_map, append_assoc, append-nil, refl, sym, ap, ◌∙◌, subst}
 use Rattle.iter_syntax.specs.declared.token.TokenKind.TheVariants as K
-use Rattle.iter_syntax.specs.declared.token.Keyword.{Keyword}
+use Rattle.iter_syntax.specs.Names.{Keyword, Place, Word, Expr, Block, Stmt}
 use Rattle.iter_syntax.specs.declared.token.Keyword.TheVariants as W
 use Rattle.iter_syntax.specs.declared.token.Symbol.TheVariants as S
-use Rattle.iter_syntax.specs.declared.tree.Place.{Place}
-use Rattle.iter_syntax.specs.declared.tree.Word.{Word}
-use Rattle.iter_syntax.specs.declared.tree.Expr.{Expr}
-use Rattle.iter_syntax.specs.declared.tree.Block.{Block}
-use Rattle.iter_syntax.specs.declared.tree.Stmt.{Stmt}
 use Rattle.iter_syntax.specs.declared.tree.Stmt.TheOpen as O
 use Rattle.iter_syntax.specs.declared.tree.Stmt.TheFolds.{fold_out-Stmt}
 use Rattle.iter_syntax.specs.Tree.{Ex, Sts, end, to_pad, to_cur, branch, ex, used, st, sts, block, st_step, block_step}

@@ -1,6 +1,6 @@
 -- Parsers that look one token ahead.
 use Rattle.std.specs.Prelude.{ℕ, zero, suc, Bool, false, if◌then◌else◌, List, [], ◌∷◌, length, Option, Some, None}
-use Rattle.iter_syntax.specs.declared.token.Token.{Token}
+use Rattle.iter_syntax.specs.Names.{Token}
 
 -- a value and the tokens left, or the tokens from the first that does not fit
 pub data Reading (A : Type 0) : Type 0 where

@@ -1,9 +1,6 @@
 -- What the printer adds to a text: tokens one after the other.
 use Rattle.std.specs.Prelude.{ℕ, Bool, true, false, nat_lt, List, [], ◌∷◌, ◌++◌, Option, Some, None}
-use Rattle.iter_syntax.specs.declared.tree.Word.{Word}
-use Rattle.iter_syntax.specs.declared.tree.RecordDecl.{RecordDecl}
-use Rattle.iter_syntax.specs.declared.tree.Iter.{Iter}
-use Rattle.iter_syntax.specs.declared.token.TokenKind.{TokenKind}
+use Rattle.iter_syntax.specs.Names.{Word, RecordDecl, Iter, TokenKind}
 use Rattle.iter_syntax.specs.declared.token.TokenKind.TheVariants as K
 use Rattle.iter_syntax.specs.declared.token.Keyword.TheVariants as W
 use Rattle.iter_syntax.specs.declared.token.Symbol.TheVariants as S

@@ -3,14 +3,9 @@
 use Rattle.std.specs.Prelude.{◌≡◌, ◌≤◌, Ok, Err, Result, ℕ, ◌+◌, Bool, true, false, ◌==◌, ◌&&◌, ◌*◌, ◌^◌, nat_le, nat_lt, cond, not, List, [], ◌∷◌, length, take, drop, codes, nat_eq, Option, Some, None}
 use Rattle.std.specs.List.{prefix_len, starts_with}
 use Rattle.std.specs.Char.{is_ascii_lowercase, is_ascii_digit, digit_value}
-use Rattle.iter_syntax.specs.declared.token.Keyword.{Keyword}
-use Rattle.iter_syntax.specs.declared.token.Symbol.{Symbol}
-use Rattle.iter_syntax.specs.declared.token.TokenKind.{TokenKind}
+use Rattle.iter_syntax.specs.Names.{Keyword, Symbol, TokenKind, Front, SyntaxFault, Token}
 use Rattle.iter_syntax.specs.declared.token.TokenKind.TheVariants as T
-use Rattle.iter_syntax.specs.declared.tokens.front.Front.{Front}
-use Rattle.iter_syntax.specs.declared.fault.SyntaxFault.{SyntaxFault}
 use Rattle.iter_syntax.specs.declared.fault.SyntaxFault.TheVariants as F
-use Rattle.iter_syntax.specs.declared.token.Token.{Token}
 use Rattle.iter_syntax.specs.Deep.{deep_place}
 use Rattle.iter_syntax.specs.Tokens.{Leads, AreTokens, IsLexPlace, begins_gap}
 use Rattle.iter_syntax.specs.Bytes.{is_separator, in_word, in_run}

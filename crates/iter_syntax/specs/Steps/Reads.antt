@@ -1,6 +1,6 @@
 -- What a reading function answers at a place of the tokens, by the parser of its form.
 use Rattle.std.specs.Prelude.{slice_get, ◌≡◌, ◌≤◌, ℕ, Bool, List, ◌∷◌, ◌++◌, length, drop, Result, Ok, Err}
-use Rattle.iter_syntax.specs.declared.token.Token.{Token}
+use Rattle.iter_syntax.specs.Names.{Token, SyntaxFault, Arg, RecordDecl, Iter, Program, Expr, Place}
 use Rattle.iter_syntax.specs.declared.parser.reader.Refused.{Refused}
 use Rattle.iter_syntax.specs.declared.parser.reader.Refused.TheVariants.{At, Memory}
 use Rattle.iter_syntax.specs.declared.parser.reader.Class.{Class}
@@ -11,14 +11,7 @@ use Rattle.iter_syntax.specs.Steps.Parsers.{Parser, Reading, Read, Stuck, bind, 
 use Rattle.iter_syntax.specs.Productions.{place_of, operator, grouped, compared, more_arg, Decl, records_of, iters_of}
 use Rattle.iter_syntax.specs.Program.{IsProgram, StopsAt}
 use Rattle.iter_syntax.specs.Parsed.{offset_of}
-use Rattle.iter_syntax.specs.declared.fault.SyntaxFault.{SyntaxFault}
 use Rattle.iter_syntax.specs.declared.fault.SyntaxFault.TheVariants as F
-use Rattle.iter_syntax.specs.declared.tree.Arg.{Arg}
-use Rattle.iter_syntax.specs.declared.tree.RecordDecl.{RecordDecl}
-use Rattle.iter_syntax.specs.declared.tree.Iter.{Iter}
-use Rattle.iter_syntax.specs.declared.tree.Program.{Program}
-use Rattle.iter_syntax.specs.declared.tree.Expr.{Expr}
-use Rattle.iter_syntax.specs.declared.tree.Place.{Place}
 
 abbrev pub in_class : Class → Token → Bool
 in_class C.Name t = is_name t

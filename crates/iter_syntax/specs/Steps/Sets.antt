@@ -1,9 +1,7 @@
 -- The tokens that may begin a form, and those that may go on with a whole one.
 use Rattle.std.specs.Prelude.{ℕ, zero, suc, Bool, true, false, ◌||◌}
-use Rattle.iter_syntax.specs.declared.token.Token.{Token}
-use Rattle.iter_syntax.specs.declared.token.TokenKind.{TokenKind}
+use Rattle.iter_syntax.specs.Names.{Token, TokenKind, Keyword}
 use Rattle.iter_syntax.specs.declared.token.TokenKind.TheVariants as K
-use Rattle.iter_syntax.specs.declared.token.Keyword.{Keyword}
 use Rattle.iter_syntax.specs.declared.token.Keyword.TheVariants as W
 use Rattle.iter_syntax.specs.declared.token.Symbol.TheVariants as S
 use Rattle.iter_syntax.specs.Kinds.{is_keyword, is_symbol, is_name, is_number, is_operator}

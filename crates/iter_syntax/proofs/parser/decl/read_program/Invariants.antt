@@ -1,7 +1,5 @@
 use Rattle.std.proofs.Common.{◌≡◌, ◌-◌, ◌≤◌, ℕ, List, drop, length}
-use Rattle.iter_syntax.specs.declared.token.Token.{Token}
-use Rattle.iter_syntax.specs.declared.tree.RecordDecl.{RecordDecl}
-use Rattle.iter_syntax.specs.declared.tree.Iter.{Iter}
+use Rattle.iter_syntax.specs.Names.{Token, RecordDecl, Iter}
 use Rattle.iter_syntax.specs.Form.{any}
 use Rattle.iter_syntax.specs.Productions as P
 use Rattle.iter_syntax.specs.Steps.Reads.{program_after}

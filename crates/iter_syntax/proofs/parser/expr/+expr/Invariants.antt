@@ -1,6 +1,5 @@
 use Rattle.std.proofs.Common.{◌*◌, ◌+◌, ◌-◌, ◌≤◌, ◌≡◌, ℕ, List, drop, length}
-use Rattle.iter_syntax.specs.declared.token.Token.{Token}
-use Rattle.iter_syntax.specs.declared.tree.Expr.{Expr}
+use Rattle.iter_syntax.specs.Names.{Token, Expr}
 use Rattle.iter_syntax.specs.Productions as P
 use Rattle.iter_syntax.specs.Steps.Reads.{chain_rest}
 use Rattle.iter_syntax.proofs.parser.expr.+expr.Given as goal

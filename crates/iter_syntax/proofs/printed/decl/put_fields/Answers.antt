@@ -1,4 +1,4 @@
-use Rattle.std.proofs.Common.{◌≡◌, flat_map, sym, ap, ◌∙◌, [], ◌∷◌}
+use Rattle.std.proofs.Common.{flat_map, sym, ap, ◌∙◌, [], ◌∷◌}
 use Rattle.std.proofs.lemmas.List.{drop_all}
 use Rattle.iter_syntax.specs.declared.token.Symbol.TheVariants as S
 use Rattle.iter_syntax.specs.Printed as P

@@ -1,6 +1,4 @@
-use Rattle.std.proofs.Common.{rules, ◌≡◌, ◌<◌, length, slice_range, flat_map, sym, ap, ◌∙◌}
-use Rattle.iter_syntax.specs.Printed as P
-use Rattle.iter_syntax.specs.Steps.Printing.{add_all}
+use Rattle.std.proofs.Common.{rules, ◌<◌, length, slice_range, sym, ap, ◌∙◌}
 use Rattle.iter_syntax.proofs.Printing.{iter_added, record_added, add_decls}
 use Rattle.iter_syntax.proofs.printed.decl.put_program.Goals as goal
 

@@ -4,7 +4,7 @@ use Rattle.iter_syntax.specs.declared.token.Symbol.TheVariants as S
 use Rattle.iter_syntax.specs.declared.tree.Stmt.TheVariants as T
 use Rattle.iter_syntax.specs.Tree.{ex, sts, block}
 use Rattle.iter_syntax.specs.Printed as P
-use Rattle.iter_syntax.specs.Steps.Printing.{add, add_all, or_none}
+use Rattle.iter_syntax.specs.Steps.Printing.{add, add_all}
 use Rattle.iter_syntax.proofs.FoldLaws.{st_go, block_is}
 use Rattle.iter_syntax.proofs.Trims.Stmt.{alone_kinds, else_kinds}
 use Rattle.iter_syntax.proofs.Printing.{all_append, pad_added, cur_added, if_added, stmt_added}

@@ -1,0 +1,20 @@
+-- The declared types of tokens and trees, for the files that name several.
+pub use Rattle.iter_syntax.specs.declared.tree.Place.{Place}
+pub use Rattle.iter_syntax.specs.declared.tree.Word.{Word}
+pub use Rattle.iter_syntax.specs.declared.tree.Width.{Width}
+pub use Rattle.iter_syntax.specs.declared.tree.FieldDecl.{FieldDecl}
+pub use Rattle.iter_syntax.specs.declared.tree.RecordDecl.{RecordDecl}
+pub use Rattle.iter_syntax.specs.declared.tree.Arg.{Arg}
+pub use Rattle.iter_syntax.specs.declared.tree.BinaryOp.{BinaryOp}
+pub use Rattle.iter_syntax.specs.declared.tree.Expr.{Expr}
+pub use Rattle.iter_syntax.specs.declared.tree.FieldUse.{FieldUse}
+pub use Rattle.iter_syntax.specs.declared.tree.Stmt.{Stmt}
+pub use Rattle.iter_syntax.specs.declared.tree.Block.{Block}
+pub use Rattle.iter_syntax.specs.declared.tree.Iter.{Iter}
+pub use Rattle.iter_syntax.specs.declared.tree.Program.{Program}
+pub use Rattle.iter_syntax.specs.declared.token.Keyword.{Keyword}
+pub use Rattle.iter_syntax.specs.declared.token.Symbol.{Symbol}
+pub use Rattle.iter_syntax.specs.declared.token.TokenKind.{TokenKind}
+pub use Rattle.iter_syntax.specs.declared.token.Token.{Token}
+pub use Rattle.iter_syntax.specs.declared.tokens.front.Front.{Front}
+pub use Rattle.iter_syntax.specs.declared.fault.SyntaxFault.{SyntaxFault}
