@@ -61,38 +61,26 @@ fn unroll_stmt<'a>(
     ensures grows { OnOk result (Grew scope.old scope.new) }
 {
     match s {
-        Stmt::Let { name, value, .. } => {
-            let s = flat_let(alloc, shape, scope, name, value);
-            add(out, s)
-        }
+        Stmt::Let { name, value, .. } => add(out, flat_let(alloc, shape, scope, name, value)),
         Stmt::Set { name, value, .. } => {
-            let s = flat_set(alloc, shape, &scope.entries, name, value);
-            add(out, s)
+            add(out, flat_set(alloc, shape, &scope.entries, name, value))
         }
         Stmt::SetPad { target, value, .. } => {
-            let s = flat_pad(alloc, shape, &scope.entries, target, value);
-            add(out, s)
+            add(out, flat_pad(alloc, shape, &scope.entries, target, value))
         }
         Stmt::SetCur { target, value, .. } => {
-            let s = flat_cur(alloc, shape, &scope.entries, target, value);
-            add(out, s)
+            add(out, flat_cur(alloc, shape, &scope.entries, target, value))
         }
-        Stmt::If { test, yes, no, .. } => {
-            let s = flat_if(alloc, shape, scope, test, yes, no);
-            add(out, s)
-        }
+        Stmt::If { test, yes, no, .. } => add(out, flat_if(alloc, shape, scope, test, yes, no)),
         Stmt::For {
             name,
             first,
             past,
             body,
             ..
-        } => { unroll_loop(alloc, shape, scope, out, name, *first, *past, body) }
-        Stmt::Done { .. } => { add(out, Ok(FlatStmt::Done)) }
-        Stmt::Go { to, .. } => {
-            let s = flat_go(alloc, shape, &scope.entries, to);
-            add(out, s)
-        }
+        } => unroll_loop(alloc, shape, scope, out, name, *first, *past, body),
+        Stmt::Done { .. } => add(out, Ok(FlatStmt::Done)),
+        Stmt::Go { to, .. } => add(out, flat_go(alloc, shape, &scope.entries, to)),
     }
 }
 

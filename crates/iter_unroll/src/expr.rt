@@ -86,16 +86,12 @@ pub fn unroll_expr(
         Expr::CurField { field, .. } => cur_field(shape, entries, field),
         Expr::PadField { field, .. } => pad_field(shape, entries, field),
         Expr::Not { of, .. } => {
-            let inner = unroll_expr(alloc, shape, entries, of.get())?;
-            Ok(FlatExpr::Not {
-                of: boxed(alloc, inner)?,
-            })
+            let of = boxed(alloc, unroll_expr(alloc, shape, entries, of.get())?)?;
+            Ok(FlatExpr::Not { of })
         }
         Expr::Flip { of, .. } => {
-            let inner = unroll_expr(alloc, shape, entries, of.get())?;
-            Ok(FlatExpr::Flip {
-                of: boxed(alloc, inner)?,
-            })
+            let of = boxed(alloc, unroll_expr(alloc, shape, entries, of.get())?)?;
+            Ok(FlatExpr::Flip { of })
         }
         Expr::Binary {
             op,
@@ -103,21 +99,18 @@ pub fn unroll_expr(
             right,
             ..
         } => {
-            let first = unroll_expr(alloc, shape, entries, left.get())?;
-            let second = unroll_expr(alloc, shape, entries, right.get())?;
+            let left = boxed(alloc, unroll_expr(alloc, shape, entries, left.get())?)?;
+            let right = boxed(alloc, unroll_expr(alloc, shape, entries, right.get())?)?;
             Ok(FlatExpr::Binary {
                 op: *op,
-                left: boxed(alloc, first)?,
-                right: boxed(alloc, second)?,
+                left,
+                right,
             })
         }
         Expr::At { base, offset, .. } => {
-            let first = unroll_expr(alloc, shape, entries, base.get())?;
-            let second = unroll_expr(alloc, shape, entries, offset.get())?;
-            Ok(FlatExpr::At {
-                base: boxed(alloc, first)?,
-                offset: boxed(alloc, second)?,
-            })
+            let base = boxed(alloc, unroll_expr(alloc, shape, entries, base.get())?)?;
+            let offset = boxed(alloc, unroll_expr(alloc, shape, entries, offset.get())?)?;
+            Ok(FlatExpr::At { base, offset })
         }
     }
 }

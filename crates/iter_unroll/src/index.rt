@@ -18,40 +18,26 @@ fn constant(entries: &[Entry], e: &Expr) -> Option<Value>
         Expr::Num { value, .. } => Some(Value::Number(*value)),
         Expr::Null { .. } => None,
         Expr::Name { name } => match find(entries, name) {
-            None => None,
-            Some(Meant::Slot(_)) => None,
             Some(Meant::Number(i)) => Some(Value::Number(i)),
-            Some(Meant::Argument(_)) => None,
+            None | Some(Meant::Slot(_) | Meant::Argument(_)) => None,
         },
         Expr::Cur { .. } => None,
-        Expr::CurField { field, .. } => match &field.index {
+        Expr::CurField { field, .. } | Expr::PadField { field, .. } => match &field.index {
             None => None,
             Some(_) => None,
         },
-        Expr::PadField { field, .. } => match &field.index {
-            None => None,
-            Some(_) => None,
-        },
-        Expr::Not { of, .. } => match constant(entries, of.get()) {
-            None => None,
-            Some(v) => Some(negated(v)),
-        },
-        Expr::Flip { of, .. } => match constant(entries, of.get()) {
-            None => None,
-            Some(v) => Some(flipped(v)),
-        },
+        Expr::Not { of, .. } => Some(negated(constant(entries, of.get())?)),
+        Expr::Flip { of, .. } => Some(flipped(constant(entries, of.get())?)),
         Expr::Binary {
             op,
             left,
             right,
             ..
-        } => match constant(entries, left.get()) {
-            None => None,
-            Some(v) => match constant(entries, right.get()) {
-                None => None,
-                Some(w) => Some(binary(*op, v, w)),
-            },
-        },
+        } => {
+            let v = constant(entries, left.get())?;
+            let w = constant(entries, right.get())?;
+            Some(binary(*op, v, w))
+        }
         Expr::At { .. } => None,
     }
 }

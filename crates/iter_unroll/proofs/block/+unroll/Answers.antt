@@ -50,35 +50,35 @@ unroll_stmt-returns-in-Let-clause-steps k c =
     let sh = shape_of c.args.shape.now in
     let a = c.args.scope.now in
     let h : s.Sts → s.Sts = λ rest. s.bind c.in-Let.place c.in-Let.name (ex c.in-Let.value) rest in
-    added sh h (st c.args.s.now) a c.flat_let-s.new.scope c.args.out.now c.add.new.out c.flat_let-s.result c.add.result (λ rest. ap (λ x. st x rest) c.in-Let.is ∙ st_let c.in-Let.place c.in-Let.name c.in-Let.value rest) (c.flat_let-s.ensures.one c.in-Let.place) c.add.ensures
+    added sh h (st c.args.s.now) a c.flat_let.new.scope c.args.out.now c.add.new.out c.flat_let.result c.add.result (λ rest. ap (λ x. st x rest) c.in-Let.is ∙ st_let c.in-Let.place c.in-Let.name c.in-Let.value rest) (c.flat_let.ensures.one c.in-Let.place) c.add.ensures
 
 pub unroll_stmt-returns-in-Set-clause-steps : goal.unroll_stmt-returns-in-Set-clause-steps
 unroll_stmt-returns-in-Set-clause-steps k c =
     let sh = shape_of c.args.shape.now in
     let a = c.args.scope.now in
     let h : s.Sts → s.Sts = λ rest. s.set c.in-Set.place c.in-Set.name (ex c.in-Set.value) rest in
-    added sh h (st c.args.s.now) a a c.args.out.now c.add-in-Set.new.out c.flat_set-s.result c.add-in-Set.result (λ rest. ap (λ x. st x rest) c.in-Set.is ∙ st_set c.in-Set.place c.in-Set.name c.in-Set.value rest) (keeps_one sh h a (env_of c.deref.result.now) c.flat_set-s.result (ap env_of c.deref.ensures.value) (c.flat_set-s.ensures c.in-Set.place)) c.add-in-Set.ensures
+    added sh h (st c.args.s.now) a a c.args.out.now c.add-in-Set.new.out c.flat_set.result c.add-in-Set.result (λ rest. ap (λ x. st x rest) c.in-Set.is ∙ st_set c.in-Set.place c.in-Set.name c.in-Set.value rest) (keeps_one sh h a (env_of c.deref.result.now) c.flat_set.result (ap env_of c.deref.ensures.value) (c.flat_set.ensures c.in-Set.place)) c.add-in-Set.ensures
 
 pub unroll_stmt-returns-in-SetPad-clause-steps : goal.unroll_stmt-returns-in-SetPad-clause-steps
 unroll_stmt-returns-in-SetPad-clause-steps k c =
     let sh = shape_of c.args.shape.now in
     let a = c.args.scope.now in
     let h : s.Sts → s.Sts = λ rest. to_pad c.in-SetPad.place (used c.in-SetPad.target).0 (used c.in-SetPad.target).1 (ex c.in-SetPad.value) rest in
-    added sh h (st c.args.s.now) a a c.args.out.now c.add-in-SetPad.new.out c.flat_pad-s.result c.add-in-SetPad.result (λ rest. ap (λ x. st x rest) c.in-SetPad.is ∙ st_set_pad c.in-SetPad.place c.in-SetPad.target c.in-SetPad.value rest) (keeps_one sh h a (env_of c.deref-in-SetPad.result.now) c.flat_pad-s.result (ap env_of c.deref-in-SetPad.ensures.value) (c.flat_pad-s.ensures c.in-SetPad.place)) c.add-in-SetPad.ensures
+    added sh h (st c.args.s.now) a a c.args.out.now c.add-in-SetPad.new.out c.flat_pad.result c.add-in-SetPad.result (λ rest. ap (λ x. st x rest) c.in-SetPad.is ∙ st_set_pad c.in-SetPad.place c.in-SetPad.target c.in-SetPad.value rest) (keeps_one sh h a (env_of c.deref-in-SetPad.result.now) c.flat_pad.result (ap env_of c.deref-in-SetPad.ensures.value) (c.flat_pad.ensures c.in-SetPad.place)) c.add-in-SetPad.ensures
 
 pub unroll_stmt-returns-in-SetCur-clause-steps : goal.unroll_stmt-returns-in-SetCur-clause-steps
 unroll_stmt-returns-in-SetCur-clause-steps k c =
     let sh = shape_of c.args.shape.now in
     let a = c.args.scope.now in
     let h : s.Sts → s.Sts = λ rest. to_cur c.in-SetCur.place (used c.in-SetCur.target).0 (used c.in-SetCur.target).1 (ex c.in-SetCur.value) rest in
-    added sh h (st c.args.s.now) a a c.args.out.now c.add-in-SetCur.new.out c.flat_cur-s.result c.add-in-SetCur.result (λ rest. ap (λ x. st x rest) c.in-SetCur.is ∙ st_set_cur c.in-SetCur.place c.in-SetCur.target c.in-SetCur.value rest) (keeps_one sh h a (env_of c.deref-in-SetCur.result.now) c.flat_cur-s.result (ap env_of c.deref-in-SetCur.ensures.value) (c.flat_cur-s.ensures c.in-SetCur.place)) c.add-in-SetCur.ensures
+    added sh h (st c.args.s.now) a a c.args.out.now c.add-in-SetCur.new.out c.flat_cur.result c.add-in-SetCur.result (λ rest. ap (λ x. st x rest) c.in-SetCur.is ∙ st_set_cur c.in-SetCur.place c.in-SetCur.target c.in-SetCur.value rest) (keeps_one sh h a (env_of c.deref-in-SetCur.result.now) c.flat_cur.result (ap env_of c.deref-in-SetCur.ensures.value) (c.flat_cur.ensures c.in-SetCur.place)) c.add-in-SetCur.ensures
 
 pub unroll_stmt-returns-in-If-clause-steps : goal.unroll_stmt-returns-in-If-clause-steps
 unroll_stmt-returns-in-If-clause-steps k c =
     let sh = shape_of c.args.shape.now in
     let a = c.args.scope.now in
     let h : s.Sts → s.Sts = λ rest. branch c.in-If.place (ex c.in-If.test) (block c.in-If.yes) (option_block c.in-If.no) rest in
-    added sh h (st c.args.s.now) a c.flat_if-s.new.scope c.args.out.now c.add-in-If.new.out c.flat_if-s.result c.add-in-If.result (λ rest. ap (λ x. st x rest) c.in-If.is ∙ st_if c.in-If.place c.in-If.test c.in-If.yes c.in-If.no rest) (c.flat_if-s.ensures.one c.in-If.place) c.add-in-If.ensures
+    added sh h (st c.args.s.now) a c.flat_if.new.scope c.args.out.now c.add-in-If.new.out c.flat_if.result c.add-in-If.result (λ rest. ap (λ x. st x rest) c.in-If.is ∙ st_if c.in-If.place c.in-If.test c.in-If.yes c.in-If.no rest) (c.flat_if.ensures.one c.in-If.place) c.add-in-If.ensures
 
 pub unroll_stmt-returns-in-For-clause-steps : goal.unroll_stmt-returns-in-For-clause-steps
 unroll_stmt-returns-in-For-clause-steps k c =
@@ -98,7 +98,7 @@ unroll_stmt-returns-in-Go-clause-steps k c =
     let sh = shape_of c.args.shape.now in
     let a = c.args.scope.now in
     let h : s.Sts → s.Sts = λ rest. s.go c.in-Go.place (ex c.in-Go.to) rest in
-    added sh h (st c.args.s.now) a a c.args.out.now c.add-in-Go.new.out c.flat_go-s.result c.add-in-Go.result (λ rest. ap (λ x. st x rest) c.in-Go.is ∙ st_go c.in-Go.place c.in-Go.to rest) (keeps_one sh h a (env_of c.deref-in-Go.result.now) c.flat_go-s.result (ap env_of c.deref-in-Go.ensures.value) (c.flat_go-s.ensures c.in-Go.place)) c.add-in-Go.ensures
+    added sh h (st c.args.s.now) a a c.args.out.now c.add-in-Go.new.out c.flat_go.result c.add-in-Go.result (λ rest. ap (λ x. st x rest) c.in-Go.is ∙ st_go c.in-Go.place c.in-Go.to rest) (keeps_one sh h a (env_of c.deref-in-Go.result.now) c.flat_go.result (ap env_of c.deref-in-Go.ensures.value) (c.flat_go.ensures c.in-Go.place)) c.add-in-Go.ensures
 
 pub unroll_turn-unroll_row-requires : goal.unroll_turn-unroll_row-requires
 unroll_turn-unroll_row-requires k c =
