@@ -5,6 +5,7 @@ use Rattle.pulse_base.specs.Spawner.{Family}
 use Rattle.pulse_base.specs.Outside.{Rose}
 use Rattle.node_core.specs.Part.{PartState}
 
+-- a value before a run and after it
 pub record Change (A : Type 0) : Type 0 where
   pub before : A
   pub after : A
@@ -20,6 +21,7 @@ pub record Sides : Type 0 where
   pub kids : Change (Option Family)
   pub kid_faults : Change ℕ
 
+-- each told by what it is before the run, and after it
 abbrev pub sides : (a b : Option (List PartState)) (c d : Option Traffic) (e f : ℕ) (g h : Option Family) (i j : ℕ) → Sides
 sides a b c d e f g h i j = record { yard = change a b; net = change c d; net_faults = change e f; kids = change g h; kid_faults = change i j }
 
@@ -29,5 +31,6 @@ pub record AreKept (s : Sides) : Type 0 where
   pub net : (s.net).after ≡ (s.net).before
   pub kids : (s.kids).after ≡ (s.kids).before
 
+-- a count of faults has become greater
 abbrev pub HasRisen : Change ℕ → Type 0
 HasRisen c = Rose c.before c.after
