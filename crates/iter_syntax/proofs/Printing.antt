@@ -25,8 +25,8 @@ all_append [] b text = refl
 all_append (k ∷ a) b text = all_append a b (add k text)
 
 -- two forms with a comma between them, in parentheses
-pub sum_added : (a b : Kinds) (text : List ℕ) → add_all (P.between S.OpenRound (a ++ P.sym S.Comma ∷ b) S.CloseRound) text ≡ add (P.sym S.CloseRound) (add_all b (add (P.sym S.Comma) (add_all a (add (P.sym S.OpenRound) text))))
-sum_added a b text =
+pub at_added : (a b : Kinds) (text : List ℕ) → add_all (P.between S.OpenRound (a ++ P.sym S.Comma ∷ b) S.CloseRound) text ≡ add (P.sym S.CloseRound) (add_all b (add (P.sym S.Comma) (add_all a (add (P.sym S.OpenRound) text))))
+at_added a b text =
     all_append (a ++ P.sym S.Comma ∷ b) (P.sym S.CloseRound ∷ []) (add (P.sym S.OpenRound) text)
     ∙ ap (add (P.sym S.CloseRound)) (all_append a (P.sym S.Comma ∷ b) (add (P.sym S.OpenRound) text))
 

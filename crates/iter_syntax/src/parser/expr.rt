@@ -227,7 +227,7 @@ fn read_atom(
     } else if stands(tokens, at, Class::Keyword(Keyword::Pad)) {
         read_pad(alloc, tokens, at, depth)
     } else if stands(tokens, at, Class::Keyword(Keyword::At)) {
-        read_sum(alloc, tokens, at, depth)
+        read_at(alloc, tokens, at, depth)
     } else {
         let (_, at) = expect(tokens, at, Class::Symbol(Symbol::OpenRound))?;
         let (inner, at) = read_level(alloc, tokens, at, LOOSEST, depth)?;
@@ -275,7 +275,7 @@ fn read_pad(
 
 /// `at ( base , offset )`.
 #[cycle(expr)]
-fn read_sum(
+fn read_at(
     alloc: Global,
     tokens: &[Token],
     at: usize,

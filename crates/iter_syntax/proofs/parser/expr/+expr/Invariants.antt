@@ -28,8 +28,8 @@ decreases-read_cur l = 30 * l.depth + 18
 abbrev pub decreases-read_pad : goal.decreases-read_pad
 decreases-read_pad l = 30 * l.depth + 18
 
-abbrev pub decreases-read_sum : goal.decreases-read_sum
-decreases-read_sum l = 30 * l.depth + 18
+abbrev pub decreases-read_at : goal.decreases-read_at
+decreases-read_at l = 30 * l.depth + 18
 
 abbrev pub decreases-read_operand : goal.decreases-read_operand
 decreases-read_operand l = 30 * l.depth + 20

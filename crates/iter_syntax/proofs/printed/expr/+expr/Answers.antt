@@ -5,7 +5,7 @@ use Rattle.iter_syntax.specs.Tree.{ex}
 use Rattle.iter_syntax.specs.Printed as P
 use Rattle.iter_syntax.specs.Steps.Printing.{add, add_all, use_kinds}
 use Rattle.iter_syntax.proofs.ExprLaws.{ex_binary, ex_at, used_is}
-use Rattle.iter_syntax.proofs.Printing.{all_append, sum_added}
+use Rattle.iter_syntax.proofs.Printing.{all_append, at_added}
 use Rattle.iter_syntax.proofs.printed.expr.+expr.Goals as goal
 
 pub put_expr-returns-in_ok-put_operand-in-Binary-2 : goal.put_expr-returns-in_ok-put_operand-in-Binary-2
@@ -17,7 +17,7 @@ put_expr-returns-in_ok-put_symbol-in-At-3 t c =
     let b = P.expr_kinds (ex c.in-At.offset) in
     let start = add (P.key W.At) c.args.text.now in
     let steps : c.put_symbol-in-At-3.new.text ≡ add (P.sym S.CloseRound) (add_all b (add (P.sym S.Comma) (add_all a (add (P.sym S.OpenRound) start)))) = search rules in
-    steps ∙ sym (sum_added a b start) ∙ ap (λ e. add_all (P.expr_kinds e) c.args.text.now) (sym (ap ex c.in-At.is ∙ ex_at c.in-At.place c.in-At.base c.in-At.offset))
+    steps ∙ sym (at_added a b start) ∙ ap (λ e. add_all (P.expr_kinds e) c.args.text.now) (sym (ap ex c.in-At.is ∙ ex_at c.in-At.place c.in-At.base c.in-At.offset))
 
 pub put_field-returns-in_ok-put_symbol-in-Some-2 : goal.put_field-returns-in_ok-put_symbol-in-Some-2
 put_field-returns-in_ok-put_symbol-in-Some-2 t c =
