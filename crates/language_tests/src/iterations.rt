@@ -30,38 +30,8 @@ const BYTE: Row = Row {
     leaves: Leaves::Done(&[5, 2], 0, 0),
 };
 
-const ROWS: [Row; 14] = [
+const ROWS: [Row; 5] = [
     BYTE,
-    Row {
-        fields: "a: u16; b: u32; c: u64; d: ptr; y: u8;",
-        record: &[
-            0, 0, 0, 0, 0, 0, 0, 0, 0, 0, 0, 0, 0, 0, 0, 0, 0, 0, 0, 0, 0, 0, 9,
-        ],
-        end: "cur.a = 66051; cur.b = 4328719365; cur.c = 72623859790382856; cur.d = at(cur, 0x10); done;",
-        leaves: Leaves::Done(
-            &[
-                3, 2, 5, 4, 3, 2, 8, 7, 6, 5, 4, 3, 2, 1, 16, 16, 0, 0, 0, 0, 0, 0, 9,
-            ],
-            0,
-            0,
-        ),
-    },
-    Row {
-        fields: "k: [u16; 3];",
-        record: &[0, 1, 0, 1, 0, 1],
-        end: "for i in 0..3 { cur.k[i] = cur.k[i] + i + 1; } for i in 1..3 { pad.a = pad.a + cur.k[i]; } done;",
-        leaves: Leaves::Done(&[1, 1, 2, 1, 3, 1], 517, 0),
-    },
-    Row {
-        end: "for i in 0..3 { for j in 1..3 { pad.a = pad.a * 10 + j; } pad.b = i; } done;",
-        leaves: Leaves::Done(&[1, 2], 121212, 2),
-        ..BYTE
-    },
-    Row {
-        end: "let c = 1; for i in 0..4 { c = c * 2; } if 1 == 1 { let x = 5; pad.a = x; } let x = 7; pad.b = x + c; done;",
-        leaves: Leaves::Done(&[1, 2], 5, 23),
-        ..BYTE
-    },
     Row {
         end: "cur.x = 7; pad.a = cur.x; if cur.y == 1 { pad.b = 1; } else { pad.b = 2; } done; pad.a = 4;",
         leaves: Leaves::Done(&[7, 2], 7, 2),
@@ -74,31 +44,6 @@ const ROWS: [Row; 14] = [
     },
     Row {
         end: "cur.x = 7; pad.a = 1 / 0; done;",
-        leaves: Leaves::Fault(Cause::DivZero),
-        ..BYTE
-    },
-    Row {
-        end: "pad.a = 1; pad.b = 5 % pad.b; done;",
-        leaves: Leaves::Fault(Cause::DivZero),
-        ..BYTE
-    },
-    Row {
-        end: "pad.a = (1 - 2) ^ (~5); pad.b = (3 << 65) + (12 >> 66) * 256 + 9223372036854775809 * 2 * 65536; done;",
-        leaves: Leaves::Done(&[1, 2], 5, 131846),
-        ..BYTE
-    },
-    Row {
-        end: "pad.a = (12 & 10) * 256 + (12 | 10) * 16 + (12 ^ 10); pad.b = 17 % 5 + 17 / 5 * 16; done;",
-        leaves: Leaves::Done(&[1, 2], 2278, 50),
-        ..BYTE
-    },
-    Row {
-        end: "if 1 == 1 || 1 / 0 == 1 { pad.a = 1; } if 1 == 2 && 1 / 0 == 1 { pad.b = 9; } if !(2 < 1) && 2 >= 2 { pad.a = pad.a + 2; } if 2 != 2 || 3 > 3 || 3 <= 2 { pad.b = 1; } done;",
-        leaves: Leaves::Done(&[1, 2], 3, 0),
-        ..BYTE
-    },
-    Row {
-        end: "if 1 == 2 || 1 / 0 == 1 { pad.a = 1; } done;",
         leaves: Leaves::Fault(Cause::DivZero),
         ..BYTE
     },

@@ -51,34 +51,13 @@ const FINDS: Row = Row {
     end: End::Done(30, 3),
 };
 
-const ROWS: [Row; 10] = [
+const ROWS: [Row; 5] = [
     FINDS,
     Row {
         name: "misses a key",
         args: [4096, 99],
         steps: 4,
         end: End::Done(99, 0),
-        ..FINDS
-    },
-    Row {
-        name: "starts unmapped",
-        args: [5000, 30],
-        steps: 0,
-        end: End::Fault(FaultKind::Unmapped, 5000),
-        ..FINDS
-    },
-    Row {
-        name: "starts between records",
-        args: [4150, 30],
-        steps: 1,
-        end: End::Fault(FaultKind::Unmapped, 2621440),
-        ..FINDS
-    },
-    Row {
-        name: "finds between records",
-        args: [4150, 196608],
-        steps: 1,
-        end: End::Done(196608, 273154048),
         ..FINDS
     },
     Row {
@@ -90,30 +69,12 @@ const ROWS: [Row; 10] = [
         ..FINDS
     },
     Row {
-        name: "spends all rounds",
-        last: 4096,
-        limit: 6,
-        args: [4096, 99],
-        steps: 6,
-        end: End::Spent,
-        ..FINDS
-    },
-    Row {
         name: "is spent before it is unmapped",
         last: 5000,
         limit: 4,
         args: [4096, 99],
         steps: 4,
         end: End::Spent,
-        ..FINDS
-    },
-    Row {
-        name: "is unmapped in its third round",
-        last: 5000,
-        limit: 6,
-        args: [4096, 99],
-        steps: 4,
-        end: End::Fault(FaultKind::Unmapped, 5000),
         ..FINDS
     },
     Row {

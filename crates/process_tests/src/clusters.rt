@@ -1,37 +1,12 @@
 // A cluster over a link and a spawner in memory.
 
+use crate::documents::{ANSWER, DONE, STOP, THREE_NODES};
 use pulse_base::{Bytes, Memory, Numbers};
 use pulse_cluster::run_cluster;
 use pulse_net::{Item, Items, MemLink, MemSpawner, Start};
 use pulse_process::{ProcessFault, Told};
-use std::alloc::{AllocError, Global};
+use std::alloc::Global;
 use std::test::Fail;
-
-// Walks down a B-tree to a key.
-const PROGRAM: &str =
-    "record tree { count: u16; leaf: u8; keys: [u64; 15]; kids: [ptr; 16]; }\niter find on tree {\n  pad { key: u64; hit: u64; got: ptr; }\n  init(root: ptr, key: int) { pad.key = key; go root; }\n  end {\n    if cur.leaf == 1 {\n      for i in 0..15 {\n        if i < cur.count && cur.keys[i] == pad.key { pad.got = cur.kids[i]; pad.hit = 1; }\n      }\n      done;\n    }\n  }\n  next {\n    let c = cur.kids[0];\n    for i in 0..15 {\n      if i < cur.count && cur.keys[i] <= pad.key { c = cur.kids[i + 1]; }\n    }\n    go c;\n  }\n}\niter put on tree {\n  pad { key: u64; hit: u64; val: ptr; }\n  init(root: ptr, key: int, val: ptr) { pad.key = key; pad.val = val; go root; }\n  end {\n    if cur.leaf == 1 {\n      for i in 0..15 {\n        if i < cur.count && cur.keys[i] == pad.key { cur.kids[i] = pad.val; pad.hit = 1; }\n      }\n      done;\n    }\n  }\n  next {\n    let c = cur.kids[0];\n    for i in 0..15 {\n      if i < cur.count && cur.keys[i] <= pad.key { c = cur.kids[i + 1]; }\n    }\n    go c;\n  }\n}\n";
-
-// Its root, the one kid of it that is not null, and the leaf that has the key 120.
-const ROOT: &str =
-    "0100006400000000000000000000000000000000000000000000000000000000000000000000000000000000000000000000000000000000000000000000000000000000000000000000000000000000000000000000000000000000000000000000000000000000000000000000000000000000000000000000000000000000000000002000000000000000000000000000000000000000000000000000000000000000000000000000000000000000000000000000000000000000000000000000000000000000000000000000000000000000000000000000000000000000000000000000000000000000000000000000000000000000000000";
-
-const INNER: &str =
-    "0100009600000000000000000000000000000000000000000000000000000000000000000000000000000000000000000000000000000000000000000000000000000000000000000000000000000000000000000000000000000000000000000000000000000000000000000000000000000000000000000000000030000000000000000000000000000000000000000000000000000000000000000000000000000000000000000000000000000000000000000000000000000000000000000000000000000000000000000000000000000000000000000000000000000000000000000000000000000000000000000000000000000000000000";
-
-const LEAF: &str =
-    "0200016400000000000000780000000000000000000000000000000000000000000000000000000000000000000000000000000000000000000000000000000000000000000000000000000000000000000000000000000000000000000000000000000000000000000000000000000000000000000000000000000700000000000000090000000000000000000000000000000000000000000000000000000000000000000000000000000000000000000000000000000000000000000000000000000000000000000000000000000000000000000000000000000000000000000000000000000000000000000000000000000000000000000000";
-
-// The back of leg 0 of request 0: done, with 61 iterations left.
-const DONE: &[u8] = &[
-    0x50, 0x4c, 1, 2, 0, 0, 0, 0, 0, 0, 0, 0, 0, 0, 0, 0, 0x3d, 0, 1, 0, 0, 0, 0, 0, 0, 0, 0, 0,
-    0x18, 0, 0x78, 0, 0, 0, 0, 0, 0, 0, 1, 0, 0, 0, 0, 0, 0, 0, 9, 0, 0, 0, 0, 0, 0, 0,
-];
-
-const STOP: &[u8] = &[
-    0x50, 0x4c, 1, 3, 0, 0, 0, 0, 0, 0, 0, 0, 0, 0, 0, 0, 0, 0, 0, 0, 0, 0, 0, 0, 0, 0, 0, 0, 0, 0,
-];
-
-const ANSWER: &[u8] = b"request 0 done 3 780000000000000001000000000000000900000000000000\nend\n";
 
 // The words of the children, each with a space before it.
 const LINES: &[u8] = b" node 0 5\n node 1 5\n node 2 5\n switch 5\n";
@@ -40,13 +15,6 @@ const LINES: &[u8] = b" node 0 5\n node 1 5\n node 2 5\n switch 5\n";
 const PORTS: &[u32] = &[
     47000, 47001, 47001, 47001, 47002, 47002, 47002, 47003, 47003, 47003, 47000, 47000, 47000,
 ];
-
-// One walk over the three nodes of a B-tree, one node of it each.
-fn document(alloc: Global) -> Result<String, AllocError> {
-    format!(in alloc;
-        "program = '''\n{PROGRAM}'''\nnodes = 3\ntries = 1000\nevents = [\"ask 0\"]\n[[region]]\nbase = 4096\nnode = 0\nhex = \"{ROOT}\"\n[[region]]\nbase = 8192\nnode = 1\nhex = \"{INNER}\"\n[[region]]\nbase = 12288\nnode = 2\nhex = \"{LEAF}\"\n[[request]]\niter = \"find\"\nargs = [4096, 120]\n"
-    )
-}
 
 // A link over which the last back of the walk comes in, and of which these calls fail.
 fn link(alloc: Global, fails: &[u32]) -> Result<MemLink, Memory> {
@@ -117,15 +85,14 @@ fn ends_in_stops(net: &MemLink) -> bool {
 
 #[test]
 fn starts_and_waits(rt: HostRuntime) -> Result<(), Fail> {
-    let text = document(rt.alloc())?;
-    let ran = run(rt.alloc(), text.as_bytes())?;
+    let ran = run(rt.alloc(), THREE_NODES.as_bytes())?;
     let lines = lines_of(rt.alloc(), &ran.kids)?;
     assert!(rt; lines.as_slice() == LINES);
     assert!(rt;
         ran.kids
             .started()
             .iter()
-            .all(|start| start.input.as_slice() == text.as_bytes())
+            .all(|start| start.input.as_slice() == THREE_NODES.as_bytes())
     );
     assert!(rt; ran.kids.waited() == [0, 1, 2, 3].as_slice());
     Ok(())
@@ -133,9 +100,8 @@ fn starts_and_waits(rt: HostRuntime) -> Result<(), Fail> {
 
 #[test]
 fn asks_and_stops(rt: HostRuntime) -> Result<(), Fail> {
-    let text = document(rt.alloc())?;
-    let ran = run(rt.alloc(), text.as_bytes())?;
-    assert!(rt; ran.told.finished && ran.told.text.as_slice() == ANSWER);
+    let ran = run(rt.alloc(), THREE_NODES.as_bytes())?;
+    assert!(rt; ran.told.finished && ran.told.text.as_slice() == ANSWER.as_bytes());
     let ports = ports_of(rt.alloc(), &ran.net)?;
     assert!(rt; ports.as_slice() == PORTS);
     assert!(rt; ends_in_stops(&ran.net));
@@ -145,10 +111,9 @@ fn asks_and_stops(rt: HostRuntime) -> Result<(), Fail> {
 
 #[test]
 fn a_start_that_fails_ends_it(rt: HostRuntime) -> Result<(), Fail> {
-    let text = document(rt.alloc())?;
     let mut net = link(rt.alloc(), &[])?;
     let mut kids = spawner(rt.alloc(), &[0])?;
-    let told = run_cluster(rt.alloc(), text.as_bytes(), 5, &mut net, &mut kids);
+    let told = run_cluster(rt.alloc(), THREE_NODES.as_bytes(), 5, &mut net, &mut kids);
     assert!(rt; matches!(told, Err(ProcessFault::Child)));
     assert_eq!(rt; net.sent().len(), 0);
     assert_eq!(rt; net.bound().len(), 0);
@@ -157,10 +122,9 @@ fn a_start_that_fails_ends_it(rt: HostRuntime) -> Result<(), Fail> {
 
 #[test]
 fn a_bind_that_fails_ends_it(rt: HostRuntime) -> Result<(), Fail> {
-    let text = document(rt.alloc())?;
     let mut net = link(rt.alloc(), &[0])?;
     let mut kids = spawner(rt.alloc(), &[])?;
-    let told = run_cluster(rt.alloc(), text.as_bytes(), 5, &mut net, &mut kids);
+    let told = run_cluster(rt.alloc(), THREE_NODES.as_bytes(), 5, &mut net, &mut kids);
     assert!(rt; matches!(told, Err(ProcessFault::Link)));
     assert_eq!(rt; kids.started().len(), 4);
     assert_eq!(rt; net.sent().len(), 0);
